@@ -65,12 +65,12 @@ found-back Found.Nothing h = done-back _ _
 found-back (Found.Refused r) h = refused-back _ _ r h
 
 pub toldOf : Content → Told
-toldOf t = answered (t .number) Told.Refused (pick (t .text) (Told.Text (t .length)) (Told.Number (t .value)))
+toldOf t = answered (t .number) Told.Refused (pick (t .text) (Told.Text (t .index) (t .length)) (Told.Number (t .index) (t .value)))
 
 pub told-back : (a : Told) → Proper Told.Refused a → toldOf (contentOf a) ≡ a
 unfolding toldOf
-told-back (Told.Number z) h = done-back _ _
-told-back (Told.Text n) h = done-back _ _
+told-back (Told.Number i z) h = done-back _ _
+told-back (Told.Text i n) h = done-back _ _
 told-back (Told.Refused r) h = refused-back _ _ r h
 
 pub editedOf : Change → Edited

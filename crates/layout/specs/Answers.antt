@@ -16,54 +16,96 @@ use Rattle.layout.specs.declared.answer.Told.the-variants as Told
 use Rattle.layout.specs.declared.answer.Edited.{Edited}
 use Rattle.layout.specs.declared.answer.Edited.the-variants as Edited
 
--- of a check
+-- ---- a check
+
 pub record Check : Type 0 where
   pub number : ℕ
   pub count : ℕ
   pub size : ℕ
 
-abbrev pub checkOf : Checked → Check
-checkOf (Checked.Good n z) = record { number = 0; count = n; size = z }
-checkOf (Checked.Refused r) = record { number = r .number; count = 0; size = 0 }
+abbrev pub checkGood : ℕ → ℕ → Check
+checkGood n z = record { number = 0; count = n; size = z }
 
--- of a count
+abbrev pub checkRefused : ℕ → Check
+checkRefused k = record { number = k; count = 0; size = 0 }
+
+abbrev pub checkOf : Checked → Check
+checkOf (Checked.Good n z) = checkGood n z
+checkOf (Checked.Refused r) = checkRefused (r .number)
+
+-- ---- a count
+
 pub record Count : Type 0 where
   pub number : ℕ
   pub count : ℕ
 
-abbrev pub countOf : Counted → Count
-countOf (Counted.Number n) = record { number = 0; count = n }
-countOf (Counted.Refused r) = record { number = r .number; count = 0 }
+abbrev pub countGood : ℕ → Count
+countGood n = record { number = 0; count = n }
 
--- of a step or a search: whether "none" or "absent" is said, and the position
+abbrev pub countRefused : ℕ → Count
+countRefused k = record { number = k; count = 0 }
+
+abbrev pub countOf : Counted → Count
+countOf (Counted.Number n) = countGood n
+countOf (Counted.Refused r) = countRefused (r .number)
+
+-- ---- a step or a search: whether "none" or "absent" is said, and the position
+
 pub record Place : Type 0 where
   pub number : ℕ
   pub none : Bool
   pub index : ℕ
 
-abbrev pub placeOf : Found → Place
-placeOf (Found.At i) = record { number = 0; none = false; index = i }
-placeOf Found.Nothing = record { number = 0; none = true; index = 0 }
-placeOf (Found.Refused r) = record { number = r .number; none = false; index = 0 }
+abbrev pub placeAt : ℕ → Place
+placeAt i = record { number = 0; none = false; index = i }
 
--- of reading an entry: whether it is text, the number, and the text's length
+abbrev pub placeNone : Place
+placeNone = record { number = 0; none = true; index = 0 }
+
+abbrev pub placeRefused : ℕ → Place
+placeRefused k = record { number = k; none = false; index = 0 }
+
+abbrev pub placeOf : Found → Place
+placeOf (Found.At i) = placeAt i
+placeOf Found.Nothing = placeNone
+placeOf (Found.Refused r) = placeRefused (r .number)
+
+-- ---- reading an entry: its position, whether it is text, the number, and the text's length
+
 pub record Content : Type 0 where
   pub number : ℕ
+  pub index : ℕ
   pub text : Bool
   pub value : ℤ
   pub length : ℕ
 
-abbrev pub contentOf : Told → Content
-contentOf (Told.Number z) = record { number = 0; text = false; value = z; length = 0 }
-contentOf (Told.Text n) = record { number = 0; text = true; value = pos 0; length = n }
-contentOf (Told.Refused r) = record { number = r .number; text = false; value = pos 0; length = 0 }
+abbrev pub contentNumber : ℕ → ℤ → Content
+contentNumber i z = record { number = 0; index = i; text = false; value = z; length = 0 }
 
--- of an edit
+abbrev pub contentText : ℕ → ℕ → Content
+contentText i n = record { number = 0; index = i; text = true; value = pos 0; length = n }
+
+abbrev pub contentRefused : ℕ → Content
+contentRefused k = record { number = k; index = 0; text = false; value = pos 0; length = 0 }
+
+abbrev pub contentOf : Told → Content
+contentOf (Told.Number i z) = contentNumber i z
+contentOf (Told.Text i n) = contentText i n
+contentOf (Told.Refused r) = contentRefused (r .number)
+
+-- ---- an edit
+
 pub record Change : Type 0 where
   pub number : ℕ
   pub size : ℕ
   pub report : ℕ
 
+abbrev pub changeDone : ℕ → ℕ → Change
+changeDone z n = record { number = 0; size = z; report = n }
+
+abbrev pub changeRefused : ℕ → Change
+changeRefused k = record { number = k; size = 0; report = 0 }
+
 abbrev pub changeOf : Edited → Change
-changeOf (Edited.Done z n) = record { number = 0; size = z; report = n }
-changeOf (Edited.Refused r) = record { number = r .number; size = 0; report = 0 }
+changeOf (Edited.Done z n) = changeDone z n
+changeOf (Edited.Refused r) = changeRefused (r .number)

@@ -12,7 +12,7 @@ pub enum Checked {
     Refused(Refusal),
 }
 
-// Of a call that counts.
+// Of a call that counts entries, or bytes that it wrote.
 pub enum Counted {
     Number(usize),
     Refused(Refusal),
@@ -25,10 +25,10 @@ pub enum Found {
     Refused(Refusal),
 }
 
-// Of reading an entry: a number, or a text of so many bytes.
+// Of reading an entry at a position: a number, or a text of so many bytes.
 pub enum Told {
-    Number(i64),
-    Text(usize),
+    Number { index: usize, value: i64 },
+    Text { index: usize, length: usize },
     Refused(Refusal),
 }
 
