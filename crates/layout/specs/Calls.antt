@@ -2,6 +2,7 @@
 -- 01, What the calls answer: "Positions count from 0. Get takes -n to n - 1 for n entries; -1 is the last", to "Absent is said
 -- only of a good list"; "Any position, start or count outside these bounds, find's start included, is 8".
 use Prim.Native.Nat.{ℕ, zero, suc, _+_, _-_}
+use mathlib.Core.Bool.{_||_}
 use mathlib.Core.List.{List, [], _∷_, _++_}
 use mathlib.Core.Option.{none, some}
 use lib.ListN.{length, drop, getD}
@@ -55,6 +56,11 @@ next i = answerAt placeRefused i λ vs. within (length vs) (i + 1)
 
 abbrev pub previous : ℕ → Reading → Place
 previous i = answerAt placeRefused i λ vs. before i
+
+-- the positions that a walk visits, f of them at most: from a place on, each by a step from the one before, until there is none
+unfoldable pub visits : (ℕ → Place) → ℕ → Place → List ℕ
+visits step zero p = []
+visits step (suc f) p = let rest = visits step f (step (p .index)) in pick (p .none || ltb 0 (p .number)) [] (p .index ∷ rest)
 
 -- ---- values
 
