@@ -1,6 +1,8 @@
 // Numbers: which values are the decimal text of a signed 64-bit number, that text, and the bytes of the first kind that
 // holds the number. Each contract is an equation with layout's definitions.
 // A signed number is taken apart and put together in `is_minus`, `magnitude` and `signed` alone; all else is unsigned.
+#![tactic(auto)]
+
 ghost use Rattle.std.specs.Prelude.{◌≡◌, [], ◌∷◌, ◌++◌, ◌+◌, ◌*◌, ◌%◌, ◌^◌, ◌≤◌, ◌<◌, length, take, replicate};
 ghost use Rattle.std.proofs.Math.Option.{some};
 ghost use Rattle.std.specs.Int.Signed.{mag};
