@@ -8,15 +8,10 @@ use Rattle.layout.specs.Bytes.{pick}
 use Rattle.layout.specs.Answers.{Check, check_of, Count, count_of, Place, place_of, Content, content_of, Change, change_of}
 use Rattle.layout.specs.declared.answer.Refusal.{Refusal}
 use Rattle.layout.specs.declared.answer.Checked.{Checked}
-use Rattle.layout.specs.declared.answer.Checked.TheVariants as Checked
 use Rattle.layout.specs.declared.answer.Counted.{Counted}
-use Rattle.layout.specs.declared.answer.Counted.TheVariants as Counted
 use Rattle.layout.specs.declared.answer.Found.{Found}
-use Rattle.layout.specs.declared.answer.Found.TheVariants as Found
 use Rattle.layout.specs.declared.answer.Told.{Told}
-use Rattle.layout.specs.declared.answer.Told.TheVariants as Told
 use Rattle.layout.specs.declared.answer.Edited.{Edited}
-use Rattle.layout.specs.declared.answer.Edited.TheVariants as Edited
 
 -- a refusal with number n, or what was done where n is 0
 answered : {A : Type 0} → ℕ → (Refusal → A) → A → A

@@ -4,15 +4,15 @@ use Prim.Native.Nat.{ℕ, zero, suc, ◌+◌, ◌-◌, ◌≤◌, ◌<◌}
 use native.Mathlib.Nat.{le_refl}
 use native.Mathlib.Omega.{arith}
 use native.Mathlib.Numerals.{add-one}
-use mathlib.Core.List.{List, [], ◌∷◌, ◌++◌, map, reverse, reverse-append}
+use mathlib.Core.List.{List, [], ◌∷◌, map, reverse, reverse-append}
 use lib.ListN.{length, take, drop, get_or, drop_of_length-le}
 use lib.Seq.{drop-cons, take-suc, take_all}
 use lib.Dec.{ltb}
 use lib.IntN.{pos, negsuc}
-use borrow.Author.Tests.{lt-ltb, le-ltb}
+use borrow.Author.Tests.{lt-ltb}
 use Rattle.layout.specs.Entry.{Value}
 use Rattle.layout.specs.Ziplist.{values}
-use Rattle.layout.specs.Calls.{within, before, first, last, next, previous, visits, position, get}
+use Rattle.layout.specs.Calls.{within, before, first, last, next, previous, visits, get}
 use Rattle.layout.proofs.Picks.{tests, by_test}
 
 module _ (vs : List Value) where

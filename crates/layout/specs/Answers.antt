@@ -4,15 +4,10 @@
 -- proofs/Answers shows that nothing is lost: from what is told the answer is had back.
 use Rattle.std.specs.Prelude.{ℕ, Bool, true, false, ℤ, pos}
 use Rattle.layout.specs.declared.answer.Checked.{Checked}
-use Rattle.layout.specs.declared.answer.Checked.TheVariants as Checked
 use Rattle.layout.specs.declared.answer.Counted.{Counted}
-use Rattle.layout.specs.declared.answer.Counted.TheVariants as Counted
 use Rattle.layout.specs.declared.answer.Found.{Found}
-use Rattle.layout.specs.declared.answer.Found.TheVariants as Found
 use Rattle.layout.specs.declared.answer.Told.{Told}
-use Rattle.layout.specs.declared.answer.Told.TheVariants as Told
 use Rattle.layout.specs.declared.answer.Edited.{Edited}
-use Rattle.layout.specs.declared.answer.Edited.TheVariants as Edited
 
 -- ---- a check
 

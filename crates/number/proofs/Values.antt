@@ -189,3 +189,15 @@ pub number_plus : (v : Bytes) (o : Option ℤ) → (get_or v 0 0 ≡ 45 → ⊥)
 unfolding number
 number_plus [] o e l h = absurd (l refl)
 number_plus (b ∷ v) o e l h = rw (ne_eqb b 45 e) h
+
+-- ---- what proofs of the code take together
+
+pub ruleset digit_laws = (whole_empty, zero_alone, zero_first, digit_low, digit_high, digits_end)
+
+pub ruleset held_laws = (held_is, held_no)
+
+pub ruleset sign_laws = (minus_zero, minus_is, plus_is)
+
+pub ruleset told_laws = (too_many, told_none)
+
+pub ruleset number_laws = (number_empty, number_minus, number_plus)

@@ -87,6 +87,7 @@ fn wide(b: u8) -> u64
 }
 
 // The whole number that bytes say, of which there are few enough for it to fit.
+#[tactic(auto, using(crate::proofs::Values::digit_laws))]
 fn digits_of(v: &[u8]) -> Whole
     requires { length v.now ≤ 19 }
     ensures { told result ≡ whole v.now }
@@ -117,6 +118,7 @@ fn digits_of(v: &[u8]) -> Whole
 }
 
 // A number of 64 bits, or none.
+#[tactic(auto, using(crate::proofs::Values::held_laws))]
 fn held(below: bool, n: u64) -> Parsed
     ensures { parsed result ≡ signed64 (of_sign below n) }
 {
@@ -128,6 +130,7 @@ fn held(below: bool, n: u64) -> Parsed
 }
 
 // n with a minus before it or none: there is no -0.
+#[tactic(auto, using(crate::proofs::Values::sign_laws))]
 fn with_sign(below: bool, n: u64) -> Parsed
     ensures { parsed result ≡ pick below (minus (some n)) (plus (some n)) }
 {
@@ -142,6 +145,7 @@ fn with_sign(below: bool, n: u64) -> Parsed
 }
 
 // What follows a minus, or where there is none the whole value: 20 digits are past 64 bits.
+#[tactic(auto, using(crate::proofs::Values::told_laws))]
 fn after_sign(below: bool, v: &[u8]) -> Parsed
     ensures { parsed result ≡ pick below (minus (whole v.now)) (plus (whole v.now)) }
 {
@@ -155,6 +159,7 @@ fn after_sign(below: bool, v: &[u8]) -> Parsed
 }
 
 // The number that a value is the decimal text of, if it is one's.
+#[tactic(auto, using(crate::proofs::Values::number_laws))]
 pub fn parse(v: &[u8]) -> Parsed
     ensures { parsed result ≡ number v.now }
 {
@@ -255,6 +260,7 @@ fn is_small(z: i64) -> bool
 }
 
 // Whether a kind before that of k bytes holds z.
+#[tactic(auto, using(crate::proofs::Encodings::shorter_one))]
 pub fn has_shorter(k: usize, z: i64) -> bool
     requires { (1 ≤ k) × (k ≤ 8) }
     ensures { result ≡ shorter k z }

@@ -1,4 +1,4 @@
-use Rattle.std.proofs.Common.{rules, ◌≤◌, ◌^◌, arith, Fits}
+use Rattle.std.proofs.Common.{rules, ◌≤◌, ◌^◌, arith}
 use Rattle.number.proofs.Texts.{power_most, count_is}
 use Rattle.number.proofs.count_of.Goals as goal
 
