@@ -4,14 +4,14 @@ ghost use Rattle.layout.specs.Bytes.{between};
 ghost use Rattle.layout.specs.Ziplist.{header, smallest, limit};
 
 // A place in a list: the offset of an entry, and the length of the entry before it.
-#[derive(Drop)]
+#[derive(Clone, Copy)]
 pub struct Cursor {
     pub at: usize,
     pub before: usize,
 }
 
 // The ziplists of documents 000 and 01.
-#[derive(Drop)]
+#[derive(Clone, Copy)]
 pub struct Ziplist;
 
 impl Ziplist {

@@ -16,35 +16,35 @@ ghost use Rattle.number.specs.Front.{Front};
 ghost use Rattle.number.specs.Kinds.{shorter};
 
 // What a value is.
-#[derive(Drop)]
+#[derive(Clone, Copy)]
 pub enum Parsed {
     Number(i64),
     Text,
 }
 
 // What bytes say that are digits only.
-#[derive(Drop)]
+#[derive(Clone, Copy)]
 enum Whole {
     Is(u64),
     Not,
 }
 
 // A number's decimal text: the first `len` of `bytes`.
-#[derive(Drop)]
+#[derive(Clone, Copy)]
 pub struct Decimal {
     pub bytes: [u8; 20],
     pub len: usize,
 }
 
 // A kind of number: its encoding byte, and how many bytes of data follow.
-#[derive(Drop)]
+#[derive(Clone, Copy)]
 pub struct Kind {
     pub byte: u8,
     pub width: usize,
 }
 
 // A number's encoding and data: the first `len` of `bytes`.
-#[derive(Drop)]
+#[derive(Clone, Copy)]
 pub struct Encoded {
     pub bytes: [u8; 9],
     pub len: usize,
