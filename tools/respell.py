@@ -99,4 +99,5 @@ def by_line(turn):
 respell("crates/*/specs/**/*.antt", by_line(antt))
 respell("crates/*/proofs/**/*.antt", by_line(antt))
 respell("crates/*/src/**/*.rt", by_line(rt))
-respell("docs/*.md", lambda text: quoted(text, IN_PAGES))
+respell("docs/AUDIT.md", lambda text: quoted(text, IN_PAGES))
+respell("docs/DECISIONS.md", lambda text: quoted(text, IN_PAGES))
