@@ -84,3 +84,7 @@ pub encoded : {z : ℤ} (f : SFits w64 z) (b w x : ℕ) (bytes : Bytes)
     → number_body (again z) ≡ in_kind b w (again z) → x ≡ twos 8 (again z) → bytes ≡ b ∷ le 8 x
     → take (1 + w) bytes ≡ number_body z
 encoded {z} f b w x bytes k t e = rw (one-add, e, t) (sym k ∙ ap number_body (same f))
+
+-- ---- what the proof of a function takes
+
+pub ruleset kind_of_laws = (kind_small, skip_small, skip, here, last)

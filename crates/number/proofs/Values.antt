@@ -11,6 +11,8 @@ use lib.ListN.{length, take, drop, get_or}
 use lib.Seq.{take-length, drop-cons, drop-length}
 use lib.Dec.{leb}
 use lib.IntN.{ℤ}
+use mir.Syntax.{w64}
+use mir.Val.{Fits}
 use borrow.Author.Tests.{lt-ltb, le-ltb, le-leb, lt-leb, eq-eqb, ne_eqb}
 use Rattle.layout.specs.Bytes.{Bytes, pick, between}
 use Rattle.layout.specs.Number.{holds, more, whole, signed64, plus, minus, number}
@@ -82,6 +84,10 @@ bound_turn i n d h g = rw add-one (omega arith)
 
 pub bound_room : (i n : ℕ) → n < 10 ^ i → i < 19 → n < 10 ^ 18
 bound_room i n h l = omega (arith, pow-le-pow_right {n = 10} (omega arith) {i = i} {j = 18} (omega arith))
+
+-- a digit more than fewer than 19 of them fits
+pub digit_fits : (i n m : ℕ) → n < 10 ^ i → i < 19 → m ≤ 10 * n + 9 → Fits w64 m
+digit_fits i n m h l e = let r : n < 10 ^ 18 = bound_room i n h l in record { fits = omega arith }
 
 -- ---- 64 bits
 
@@ -190,14 +196,14 @@ unfolding number
 number_plus [] o e l h = absurd (l refl)
 number_plus (b ∷ v) o e l h = rw (ne_eqb b 45 e) h
 
--- ---- what proofs of the code take together
+-- ---- what the proof of each function takes
 
-pub ruleset digit_laws = (whole_empty, zero_alone, zero_first, digit_low, digit_high, digits_end)
+pub ruleset digits_of_laws = (whole_empty, zero_alone, zero_first, digit_low, digit_high, digits_end)
 
 pub ruleset held_laws = (held_is, held_no)
 
-pub ruleset sign_laws = (minus_zero, minus_is, plus_is)
+pub ruleset with_sign_laws = (minus_zero, minus_is, plus_is)
 
-pub ruleset told_laws = (too_many, told_none)
+pub ruleset after_sign_laws = (too_many, told_none)
 
-pub ruleset number_laws = (number_empty, number_minus, number_plus)
+pub ruleset parse_laws = (number_empty, number_minus, number_plus)

@@ -87,7 +87,7 @@ fn wide(b: u8) -> u64
 }
 
 // The whole number that bytes say, of which there are few enough for it to fit.
-#[tactic(auto, using(crate::proofs::Values::digit_laws))]
+#[tactic(auto, using(crate::proofs::Values::digits_of_laws))]
 fn digits_of(v: &[u8]) -> Whole
     requires { length v.now ≤ 19 }
     ensures { told result ≡ whole v.now }
@@ -130,7 +130,7 @@ fn held(below: bool, n: u64) -> Parsed
 }
 
 // n with a minus before it or none: there is no -0.
-#[tactic(auto, using(crate::proofs::Values::sign_laws))]
+#[tactic(auto, using(crate::proofs::Values::with_sign_laws))]
 fn with_sign(below: bool, n: u64) -> Parsed
     ensures { parsed result ≡ pick below (minus (some n)) (plus (some n)) }
 {
@@ -145,7 +145,7 @@ fn with_sign(below: bool, n: u64) -> Parsed
 }
 
 // What follows a minus, or where there is none the whole value: 20 digits are past 64 bits.
-#[tactic(auto, using(crate::proofs::Values::told_laws))]
+#[tactic(auto, using(crate::proofs::Values::after_sign_laws))]
 fn after_sign(below: bool, v: &[u8]) -> Parsed
     ensures { parsed result ≡ pick below (minus (whole v.now)) (plus (whole v.now)) }
 {
@@ -159,7 +159,7 @@ fn after_sign(below: bool, v: &[u8]) -> Parsed
 }
 
 // The number that a value is the decimal text of, if it is one's.
-#[tactic(auto, using(crate::proofs::Values::number_laws))]
+#[tactic(auto, using(crate::proofs::Values::parse_laws))]
 pub fn parse(v: &[u8]) -> Parsed
     ensures { parsed result ≡ number v.now }
 {
@@ -275,6 +275,7 @@ pub fn has_shorter(k: usize, z: i64) -> bool
 }
 
 // The first kind that holds z. Its data are the first bytes of z in 8.
+#[tactic(auto, using(crate::proofs::Encodings::kind_of_laws), unfolding(layout::specs::Entry::number_body))]
 pub fn kind_of(z: i64) -> Kind
     ensures { (number_body z ≡ result.byte ∷ take result.width (le 8 (twos 8 z))) × (result.width ≤ 8) }
 {

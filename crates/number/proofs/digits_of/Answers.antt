@@ -1,19 +1,15 @@
-use Rattle.std.proofs.Common.{rules, arith, ◌<◌, ◌^◌}
-use Rattle.number.proofs.Values.{first_digit, digit_turn, bound_turn, bound_room}
+use Rattle.std.proofs.Common.{rules, arith}
+use Rattle.number.proofs.Values.{first_digit, digit_turn, bound_turn, digit_fits}
 use Rattle.number.proofs.digits_of.Goals as goal
 
 pub loop-i-init : goal.loop-i-init
 loop-i-init c = (search rules, search rules, search first_digit)
 
 pub overflow_mul-n : goal.overflow_mul-n
-overflow_mul-n c =
-    let room : c.loop-i.n < 10 ^ 18 = bound_room c.loop-i.i _ c.loop-i.invariant.1 (omega arith) in
-    record { fits = omega arith }
+overflow_mul-n c = digit_fits c.loop-i.i c.loop-i.n _ c.loop-i.invariant.1 (omega arith) (omega arith)
 
 pub overflow_add-n : goal.overflow_add-n
-overflow_add-n c =
-    let room : c.loop-i.n < 10 ^ 18 = bound_room c.loop-i.i _ c.loop-i.invariant.1 (omega arith) in
-    record { fits = omega arith }
+overflow_add-n c = digit_fits c.loop-i.i c.loop-i.n _ c.loop-i.invariant.1 (omega arith) (omega arith)
 
 pub loop-i-preserved : goal.loop-i-preserved
 loop-i-preserved c =
