@@ -1,33 +1,30 @@
 -- A search's answer is the first equal value among those it looks at; where it says absent, none of them is equal.
-use mathlib.Core.Path.{◌≡◌, refl, sym, ap, subst}
+use mathlib.Core.Path.{◌≡◌, refl, sym, ap}
 use mathlib.Core.Logic.{◌≢◌}
-use Prim.Native.Nat.{ℕ, zero, suc, ◌+◌, ◌<◌}
+use Prim.Native.Nat.{ℕ, zero, suc, ◌+◌, ◌*◌, ◌<◌}
 use native.Mathlib.Omega.{arith}
-use mathlib.Core.Bool.{true, false}
+use mathlib.Core.Bool.{false}
 use mathlib.Core.List.{List, [], ◌∷◌}
 use lib.ListN.{length, get_or}
 use Rattle.layout.specs.Bytes.{same}
 use Rattle.layout.specs.Entry.{Value}
-use Rattle.layout.specs.Answers.{Place, place_at, place_none}
+use Rattle.layout.specs.Answers.{place_at, place_none}
 use Rattle.layout.specs.Calls.{search}
-use Rattle.layout.proofs.Picks.{apart, by_test}
-use Rattle.layout.proofs.Bytes.{same_refl, same_true}
+use Rattle.layout.proofs.Picks.{by_test}
+use Rattle.layout.proofs.Bytes.{same_is}
 
 -- the positions looked at: start, start + skip + 1, and so on
 unfoldable pub looked : ℕ → ℕ → ℕ → ℕ
-looked skip start zero = start
-looked skip start (suc j) = looked skip (start + (skip + 1)) j
+looked skip start j = start + j * (skip + 1)
 
 -- from one position on
 looked_suc : (skip start j : ℕ) → looked skip (suc start) j ≡ suc (looked skip start j)
 unfolding looked
-looked_suc skip start zero = refl
-looked_suc skip start (suc j) =
-    let e : suc start + (skip + 1) ≡ suc (start + (skip + 1)) = omega arith in rw e (looked_suc skip (start + (skip + 1)) j)
+looked_suc skip start j = omega arith
 
 looked_next : (skip j : ℕ) → looked skip 0 (suc j) ≡ suc (looked skip skip j)
 unfolding looked
-looked_next skip j = let e : 0 + (skip + 1) ≡ suc skip = omega arith in rw e (looked_suc skip skip j)
+looked_next skip j = omega arith
 
 -- i is the turn's position, the value there is v, and no value looked at before is
 pub record First (skip start : ℕ) (v : Value) (vs : List Value) (i : ℕ) : Type 0 where
@@ -46,35 +43,33 @@ module _ (skip : ℕ) (v : Value) where
   not_first : (w : Value) (ws : List Value) → same v w ≡ false → (j : ℕ)
       → ((k : ℕ) → j ≡ suc k → get_or ws (looked skip skip k) [] ≢ v) → get_or (w ∷ ws) (looked skip 0 j) [] ≢ v
   unfolding looked
-  not_first w ws b zero h = λ e. apart (cc (same_refl v))
+  not_first w ws b zero h = let z : looked skip 0 0 ≡ 0 = omega arith in rw z λ e. cc ((same_is v v).1 refl)
   not_first w ws b (suc j) h = rw (looked_next skip j) (h j refl)
 
   -- the same where the values looked at start one further
   found_from : (wait at : ℕ) (ws : List Value) (i : ℕ) → search skip wait at v ws ≡ place_at i
       → (x : ℕ) × (i ≡ at + x) × First skip wait v ws x
   unfolding search looked
-  found_from wait at [] i e = let b : true ≡ false = ap (λ (p : Place). p.none) e in apart (cc)
+  found_from wait at [] i e = grind arith
   found_from zero at (w ∷ ws) i e =
       by_test (same v w)
-      (λ b. let q : place_at at ≡ place_at i = rw b at e in
-      let k : at ≡ i = ap (λ (p : Place). p.index) q in (
+      (λ b. (
         0,
-        omega arith,
+        grind arith,
         record {
           turn = 0;
-          place = refl;
+          place = omega arith;
           inside = omega arith;
-          equal = sym (same_true v w b);
+          equal = sym ((same_is v w).0 b);
           none_before = λ j l. absurd (omega arith);
         },
       ))
-      λ b. let q : search skip skip (at + 1) v ws ≡ place_at i = rw b at e in
-      let (x, y, F) = found_from skip (at + 1) ws i q in (
+      λ b. let (x, y, F) = found_from skip (at + 1) ws i (rw b at e) in (
         suc x,
         omega arith,
         record {
           turn = suc F.turn;
-          place = rw (looked_next skip F.turn) (ap suc F.place);
+          place = omega arith;
           inside = omega (arith, F.inside);
           equal = F.equal;
           none_before = λ j l. not_first w ws b j λ k m. F.none_before k (omega arith);
@@ -86,7 +81,7 @@ module _ (skip : ℕ) (v : Value) where
         omega arith,
         record {
           turn = F.turn;
-          place = rw (looked_suc skip wait F.turn) (ap suc F.place);
+          place = omega arith;
           inside = omega (arith, F.inside);
           equal = F.equal;
           none_before = λ j l. rw (looked_suc skip wait j) (F.none_before j l);
@@ -97,8 +92,7 @@ module _ (skip : ℕ) (v : Value) where
   unfolding search looked
   absent_from wait at [] e = λ j l. absurd (omega arith)
   absent_from zero at (w ∷ ws) e =
-      by_test (same v w) (λ b. let q : place_at at ≡ place_none = rw b at e in
-      let f : false ≡ true = ap (λ (p : Place). p.none) q in apart (cc))
+      by_test (same v w) (λ b. grind arith)
       λ b j l. not_first w ws b j λ k m.
       absent_from skip (at + 1) ws (rw b at e) k (omega (arith, looked_next skip k, ap (looked skip 0) m))
   absent_from (suc wait) at (w ∷ ws) e = λ j l.
@@ -107,7 +101,7 @@ module _ (skip : ℕ) (v : Value) where
   module _ (start : ℕ) (vs : List Value) where
     -- what is found is the first
     pub found_first : (i : ℕ) → search skip start 0 v vs ≡ place_at i → First skip start v vs i
-    found_first i e = let (x, y, F) = found_from start 0 vs i e in let z : x ≡ i = omega arith in subst (First skip start v vs) z F
+    found_first i e = let (x, y, F) = found_from start 0 vs i e in let z : x ≡ i = omega arith in rw z at F
 
     -- what is absent is not there
     pub absent_none : search skip start 0 v vs ≡ place_none → Absent skip start v vs

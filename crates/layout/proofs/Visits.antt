@@ -1,19 +1,16 @@
 -- The walks by calls: forward they visit the values in order, backward in reverse; an index from either end names one entry.
-use mathlib.Core.Path.{◌≡◌, refl, ap, ◌∙◌}
+use mathlib.Core.Path.{◌≡◌, refl}
 use Prim.Native.Nat.{ℕ, zero, suc, ◌+◌, ◌-◌, ◌≤◌, ◌<◌}
 use native.Mathlib.Nat.{le_refl}
 use native.Mathlib.Omega.{arith}
-use native.Mathlib.Numerals.{add-one}
-use mathlib.Core.List.{List, [], ◌∷◌, map, reverse, reverse-append}
-use lib.ListN.{length, take, drop, get_or, drop_of_length-le}
-use lib.Seq.{drop-cons, take-suc, take_all}
-use lib.Dec.{ltb}
+use mathlib.Core.List.{List, [], map, reverse, reverse-append}
+use lib.ListN.{length, take, drop, get_or}
+use lib.Seq.{take-suc, take_all}
+use Rattle.std.proofs.lemmas.List.{drop_more, drop_all}
 use lib.IntN.{pos, negsuc}
-use borrow.Author.Tests.{lt-ltb}
 use Rattle.layout.specs.Entry.{Value}
 use Rattle.layout.specs.Ziplist.{values}
 use Rattle.layout.specs.Calls.{within, before, first, last, next, previous, visits, get}
-use Rattle.layout.proofs.Picks.{tests, by_test}
 
 module _ (vs : List Value) where
   -- the value at a position
@@ -23,13 +20,8 @@ module _ (vs : List Value) where
   -- forward from position i
   forward_from : (f i : ℕ) → length vs - i ≤ f → map at (visits (λ j. next j (values vs)) f (within (length vs) i)) ≡ drop i vs
   unfolding visits
-  forward_from zero i h = let l : length vs ≤ i = omega arith in rw (drop_of_length-le vs l)
-  forward_from (suc f) i h =
-      by_test (ltb i (length vs))
-      (λ b. let l : i < length vs = omega tests in
-      let d : drop (i + 1) vs ≡ drop (suc i) vs = rw add-one in
-      rw (b, b, drop-cons vs i [] l) (ap (λ r. at i ∷ r) (forward_from f (i + 1) (omega arith) ∙ d)))
-      λ b. let l : length vs ≤ i = omega tests in rw (b, drop_of_length-le vs l)
+  forward_from zero i h = grind (arith, drop_all i vs)
+  forward_from (suc f) i h = grind (arith, forward_from f (i + 1), drop_more vs i [], drop_all i vs)
 
   -- from first by next
   pub forward : (f : ℕ) → length vs ≤ f → map at (visits (λ j. next j (values vs)) f (first (values vs))) ≡ vs
@@ -41,10 +33,7 @@ module _ (vs : List Value) where
   backward_from zero zero h k = refl
   backward_from zero (suc i) h k = absurd (omega arith)
   backward_from (suc f) zero h k = refl
-  backward_from (suc f) (suc i) h k =
-      let l : i < length vs = omega arith in
-      rw (lt-ltb i (length vs) l, take-suc vs i [] l, reverse-append)
-      (ap (λ r. at i ∷ r) (backward_from f i (omega arith) (omega arith)))
+  backward_from (suc f) (suc i) h k = grind (arith, take-suc vs i [], reverse-append, backward_from f i)
 
   -- from last by previous
   pub backward : (f : ℕ) → length vs ≤ f → map at (visits (λ j. previous j (values vs)) f (last (values vs))) ≡ reverse vs
@@ -52,7 +41,4 @@ module _ (vs : List Value) where
 
   -- i and i - n
   pub both_ends : (i : ℕ) → i < length vs → get (negsuc (length vs - suc i)) (values vs) ≡ get (pos i) (values vs)
-  both_ends i h =
-      let n : ℕ = length vs in
-      let e : n - suc (n - suc i) ≡ i = omega arith in
-      rw (lt-ltb (n - suc i) n (omega arith), e)
+  both_ends i h = grind arith

@@ -2,12 +2,33 @@
 -- 01, When a call says no: "A refusal returns its number, with count, size, index, report and number zero and any part
 -- empty .. 'None' and 'absent' are said beside answer 0, with the same zeros and empty part".
 -- proofs/Answers shows that nothing is lost: from what is told the answer is had back.
-use Rattle.std.specs.Prelude.{ℕ, Bool, true, false, ℤ, pos}
+use Rattle.std.specs.Prelude.{ℕ, Bool, true, false, ℤ, pos, Option, Some, None, Result, Ok, Err}
+use Rattle.layout.specs.declared.answer.Refusal.{Refusal}
 use Rattle.layout.specs.declared.answer.Checked.{Checked}
-use Rattle.layout.specs.declared.answer.Counted.{Counted}
-use Rattle.layout.specs.declared.answer.Found.{Found}
 use Rattle.layout.specs.declared.answer.Told.{Told}
 use Rattle.layout.specs.declared.answer.Edited.{Edited}
+
+-- the number of a refusal
+abbrev pub number_of : Refusal → ℕ
+number_of Refusal.BadSize = 1
+number_of Refusal.Torn = 2
+number_of Refusal.BadPrevious = 3
+number_of Refusal.NotPlain = 4
+number_of Refusal.UnknownEncoding = 5
+number_of Refusal.BadTail = 6
+number_of Refusal.BadCount = 7
+number_of Refusal.NoSuchPosition = 8
+number_of Refusal.OverLimit = 9
+number_of Refusal.OverBuffer = 10
+number_of Refusal.ShortOutput = 11
+
+abbrev pub Answer : Type 0 → Type 0
+Answer A = Result A Refusal
+
+-- what an answer tells: done beside what was found, or the refusal's number beside zeros
+abbrev pub telling : {A T : Type 0} → (A → T) → (ℕ → T) → Answer A → T
+telling done refused (Ok a) = done a
+telling done refused (Err r) = refused (number_of r)
 
 -- ---- a check
 
@@ -22,9 +43,8 @@ check_good n z = record { number = 0; count = n; size = z }
 abbrev pub check_refused : ℕ → Check
 check_refused k = record { number = k; count = 0; size = 0 }
 
-abbrev pub check_of : Checked → Check
-check_of (Checked.Good n z) = check_good n z
-check_of (Checked.Refused r) = check_refused r.number
+abbrev pub check_of : Answer Checked → Check
+check_of = telling (λ c. check_good c.count c.size) check_refused
 
 -- ---- a count
 
@@ -38,9 +58,8 @@ count_good n = record { number = 0; count = n }
 abbrev pub count_refused : ℕ → Count
 count_refused k = record { number = k; count = 0 }
 
-abbrev pub count_of : Counted → Count
-count_of (Counted.Number n) = count_good n
-count_of (Counted.Refused r) = count_refused r.number
+abbrev pub count_of : Answer ℕ → Count
+count_of = telling count_good count_refused
 
 -- ---- a step or a search: whether "none" or "absent" is said, and the position
 
@@ -58,10 +77,12 @@ place_none = record { number = 0; none = true; index = 0 }
 abbrev pub place_refused : ℕ → Place
 place_refused k = record { number = k; none = false; index = 0 }
 
-abbrev pub place_of : Found → Place
-place_of (Found.At i) = place_at i
-place_of Found.Nothing = place_none
-place_of (Found.Refused r) = place_refused r.number
+abbrev pub place_found : Option ℕ → Place
+place_found (Some i) = place_at i
+place_found None = place_none
+
+abbrev pub place_of : Answer (Option ℕ) → Place
+place_of = telling place_found place_refused
 
 -- ---- reading an entry: its position, whether it is text, the number, and the text's length
 
@@ -81,10 +102,12 @@ content_text i n = record { number = 0; index = i; text = true; value = pos 0; l
 abbrev pub content_refused : ℕ → Content
 content_refused k = record { number = k; index = 0; text = false; value = pos 0; length = 0 }
 
-abbrev pub content_of : Told → Content
-content_of (Told.Number i z) = content_number i z
-content_of (Told.Text i n) = content_text i n
-content_of (Told.Refused r) = content_refused r.number
+abbrev pub content_told : Told → Content
+content_told (Told.Number i z) = content_number i z
+content_told (Told.Text i n) = content_text i n
+
+abbrev pub content_of : Answer Told → Content
+content_of = telling content_told content_refused
 
 -- ---- an edit
 
@@ -99,6 +122,5 @@ change_done z n = record { number = 0; size = z; report = n }
 abbrev pub change_refused : ℕ → Change
 change_refused k = record { number = k; size = 0; report = 0 }
 
-abbrev pub change_of : Edited → Change
-change_of (Edited.Done z n) = change_done z n
-change_of (Edited.Refused r) = change_refused r.number
+abbrev pub change_of : Answer Edited → Change
+change_of = telling (λ e. change_done e.size e.report) change_refused

@@ -1,8 +1,7 @@
 -- What the reading calls answer, by what the bytes are read as, whatever the layout.
 -- 01, What the calls answer: "Positions count from 0. Get takes -n to n - 1 for n entries; -1 is the last", to "Absent is said
 -- only of a good list"; "Any position, start or count outside these bounds, find's start included, is 8".
-use Rattle.std.specs.Prelude.{ℕ, zero, suc, ◌+◌, ◌-◌, ◌||◌, List, [], ◌∷◌, ◌++◌, length, drop, get_or, ltb, leb, ℤ, pos, negsuc}
-use Rattle.std.proofs.Math.Option.{none, some}
+use Rattle.std.specs.Prelude.{ℕ, zero, suc, ◌+◌, ◌-◌, ◌||◌, List, [], ◌∷◌, ◌++◌, length, drop, get_or, ltb, leb, ℤ, pos, negsuc, None, Some}
 use Rattle.layout.specs.Bytes.{Bytes, same, pick}
 use Rattle.layout.specs.Number.{number}
 use Rattle.layout.specs.Entry.{Value}
@@ -61,7 +60,7 @@ visits step (suc f) p = let rest = visits step f (step p.index) in pick (p.none 
 
 -- what reading the value v at position i tells
 abbrev pub content : ℕ → Value → Content
-content i v = elim (number v) [ some z ↦ content_number i z | none ↦ content_text i (length v) ]
+content i v = elim (number v) [ Some z ↦ content_number i z | None ↦ content_text i (length v) ]
 
 abbrev pub read : ℕ → Reading → Content
 read i = answer_at content_refused i λ vs. content i (get_or vs i [])
@@ -76,7 +75,7 @@ get z r = answer content_refused (λ vs. read (position (length vs) z) r) r
 
 -- the part of the list that is a text's data: empty for a number and for a refusal
 abbrev pub text_of : Value → Bytes
-text_of v = elim (number v) [ some z ↦ [] | none ↦ v ]
+text_of v = elim (number v) [ Some z ↦ [] | None ↦ v ]
 
 abbrev pub part : ℕ → Reading → Bytes
 part i = answer_at (λ k. []) i λ vs. text_of (get_or vs i [])

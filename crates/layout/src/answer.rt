@@ -1,45 +1,65 @@
-// What calls answer. An empty list is an answer and a list that cannot be read is a refusal: no answer is both.
-// specs/Answers gives the papers' number and values for every case, and promises speak through it.
+//! What calls answer. An empty list is an answer and a list that cannot be read is a refusal: no answer is both.
+//! specs/Answers gives the papers' number and values for every case, and promises speak through it.
+ghost use Rattle.std.specs.Prelude.{◌≡◌};
+ghost use Rattle.layout.specs.Answers.{number_of};
 
-// Why a call says no: a number of the papers' table, from 1 on.
-#[derive(Clone, Copy)]
-pub struct Refusal {
-    pub number: u32,
+/// Why a call says no. The numbers are the papers' table; 0 is its "done", and no refusal.
+#[derive(Clone, Copy, Debug, PartialEq, Eq)]
+pub enum Refusal {
+    /// The buffer is under the smallest list; or the size that the list states is under it, over the limit or over the buffer.
+    BadSize = 1,
+    /// The last byte is not 0xFF, an entry begins with 0xFF before it, or an entry runs into it.
+    Torn = 2,
+    /// A previous length has the wrong value.
+    BadPrevious = 3,
+    /// A field, a length or a number is in a longer form than its value needs, or a number's text is kept as text.
+    NotPlain = 4,
+    /// No encoding begins with this byte.
+    UnknownEncoding = 5,
+    /// The offset of the last entry is wrong.
+    BadTail = 6,
+    /// The number of entries is wrong.
+    BadCount = 7,
+    /// There is no such position.
+    NoSuchPosition = 8,
+    /// The result would be over the size limit.
+    OverLimit = 9,
+    /// The result would be over the buffer.
+    OverBuffer = 10,
+    /// The output buffer is too short for the value.
+    ShortOutput = 11,
 }
 
-// Of a check: the list is good, with so many entries and bytes.
-#[derive(Clone, Copy)]
-pub enum Checked {
-    Good { count: usize, size: usize },
-    Refused(Refusal),
+impl Refusal {
+    /// The papers' number.
+    pub fn number(self) -> u32
+        ensures { result ≡ number_of self }
+    {
+        // Nothing but `as` reads a discriminant.
+        self as u32
+    }
 }
 
-// Of a call that counts entries, or bytes that it wrote.
-#[derive(Clone, Copy)]
-pub enum Counted {
-    Number(usize),
-    Refused(Refusal),
+/// What a call answers, or why it says no.
+pub type Answer<T> = Result<T, Refusal>;
+
+/// Of a check: a good list, of so many entries and bytes.
+#[derive(Clone, Copy, Debug, PartialEq, Eq)]
+pub struct Checked {
+    pub count: usize,
+    pub size: usize,
 }
 
-// Of a step or a search: a position; or nothing, which is said only of a good list.
-#[derive(Clone, Copy)]
-pub enum Found {
-    At(usize),
-    Nothing,
-    Refused(Refusal),
-}
-
-// Of reading an entry at a position: a number, or a text of so many bytes.
-#[derive(Clone, Copy)]
+/// Of reading an entry at a position: a number, or a text of so many bytes.
+#[derive(Clone, Copy, Debug, PartialEq, Eq)]
 pub enum Told {
     Number { index: usize, value: i64 },
     Text { index: usize, length: usize },
-    Refused(Refusal),
 }
 
-// Of an edit: the new size, and how many survivors store another length.
-#[derive(Clone, Copy)]
-pub enum Edited {
-    Done { size: usize, report: usize },
-    Refused(Refusal),
+/// Of an edit: the new size, and how many survivors store another length.
+#[derive(Clone, Copy, Debug, PartialEq, Eq)]
+pub struct Edited {
+    pub size: usize,
+    pub report: usize,
 }

@@ -1,24 +1,13 @@
 -- Numbers in k bytes, for every k.
-use mathlib.Core.Path.{◌≡◌, refl, ap, ◌∙◌}
-use Prim.Native.Nat.{ℕ, zero, suc, ◌+◌, ◌-◌, ◌*◌, ◌/◌, ◌%◌, ◌^◌, ◌≤◌, ◌<◌}
-use native.Mathlib.Nat.{one-mul, mul_assoc, mul-suc, pow-succ', pow-le-pow_right, one-le-pow}
-use native.Mathlib.Omega.{arith}
-use mathlib.Core.Bool.{Bool, true, false}
-use mathlib.Core.List.{◌∷◌}
-use lib.Dec.{ltb, leb}
-use lib.ListN.{take}
-use lib.IntN.{ℤ, pos, negsuc}
-use lib.Signed.{mag}
-use lib.Pow.{pow-add, shl_exact}
-use borrow.Author.Tests.{lt-ltb, le-ltb}
-use mir.Syntax.{w64}
-use mir.Val.{SFits}
-use Rattle.layout.specs.Number.{half, holds, twos, of_twos}
+use Rattle.std.proofs.Common.{◌≡◌, refl, ap, ◌∙◌, ℕ, zero, suc, ◌+◌, ◌-◌, ◌*◌, ◌/◌, ◌%◌, ◌^◌, ◌≤◌, Bool, true, ◌∷◌, take, ℤ, pos, negsuc, SFits, w64, to_z-of_z, arith, pow-add}
+use Rattle.std.proofs.Math.Nat.{one-mul, mul_assoc, mul-suc, pow-succ', pow-le-pow_right, one-le-pow}
+use Rattle.std.proofs.Math.Pow.{shl_exact}
+use Rattle.layout.specs.Number.{half, holds, twos}
 use Rattle.layout.specs.Entry.{small}
 use Rattle.layout.specs.Bytes.{le}
 use Rattle.layout.proofs.Picks.{tests}
-use Rattle.number.specs.Signs.{is_minus, of_sign}
-use Rattle.number.proofs.Signs.{again, same, known}
+use Rattle.number.specs.Kinds.{shorter}
+use Rattle.number.proofs.Signs.{again}
 
 -- ---- half of what k bytes hold
 
@@ -28,52 +17,20 @@ half_pow (suc j) =
     let e : 8 * suc j + 7 ≡ 8 + (8 * j + 7) = omega arith in rw (e, pow-add 2 8 (8 * j + 7), half_pow j) (omega arith)
 
 -- by a shift
-module _ (k : ℕ) (p : 1 ≤ k) (q : k ≤ 8) where
-  shift : (j : ℕ) → k ≡ suc j → 1 * 2 ^ (8 * k - 1) % 2 ^ 64 ≡ half k
-  shift j e =
-      let g : 8 * suc j - 1 ≡ 8 * j + 7 = omega arith in
-      rw (e, g, shl_exact {a = 1} 1 (8 * j + 7) 64 (omega arith) (omega arith), one-mul) (half_pow j)
+shifted : (j : ℕ) → suc j ≤ 8 → 1 * 2 ^ (8 * suc j - 1) % 2 ^ 64 ≡ half (suc j)
+shifted j l =
+    let g : 8 * suc j - 1 ≡ 8 * j + 7 = omega arith in
+    rw (g, shl_exact {a = 1} 1 (8 * j + 7) 64 (omega arith) (omega arith), one-mul) (half_pow j)
 
-  pub half_is : 1 * 2 ^ (8 * k - 1) % 2 ^ 64 ≡ half k
-  half_is = shift (k - 1) (omega arith)
+pub half_is : (k : ℕ) → 1 ≤ k → k ≤ 8
+    → (1 * 2 ^ (8 * k - 1) % 2 ^ 64 ≡ half k) × (2 * (1 * 2 ^ (8 * k - 1) % 2 ^ 64) ≡ 256 ^ k) × (1 * 2 ^ (8 * k - 1) % 2 ^ 64 ≤ 2 ^ 63)
+half_is zero p q = absurd (omega arith)
+half_is (suc j) p q =
+    rw (shifted j q) (refl, omega arith, omega (arith, pow-le-pow_right {n = 256} (omega arith) {i = suc j} {j = 8} q))
 
-  twice : (j : ℕ) → k ≡ suc j → 2 * half k ≡ 256 ^ k
-  twice j e = rw e (omega arith)
-
-  pub half_twice : 2 * half k ≡ 256 ^ k
-  half_twice = twice (k - 1) (omega arith)
-
-  pub half_most : half k ≤ 2 ^ 63
-  half_most = omega (arith, pow-le-pow_right {n = 256} (omega arith) q)
-
--- ---- by sign and magnitude
-
-holds_mag : (k : ℕ) (z : ℤ) → ltb (mag z) (half k) ≡ holds k z
-unfolding holds
-holds_mag k (pos n) = refl
-holds_mag k (negsuc n) = refl
-
--- of a number that was handed to callees as the machine reads it again
-module _ {z : ℤ} (f : SFits w64 z) (n : ℕ) (m : n ≡ mag (again z)) where
-  pub fits_is : (k h : ℕ) → h ≡ half k → ltb n h ≡ holds k z
-  fits_is k h g = rw (m, same f, g) (holds_mag k z)
-
-  module _ (b : Bool) (s : b ≡ is_minus (again z)) where
-    pub small_plus : b ≡ false → leb n 12 ≡ small z
-    small_plus h = ap small (rw h at (known f n m b s))
-
-    pub bits_plus : b ≡ false → n ≡ twos 8 z
-    unfolding twos
-    bits_plus h = ap (twos 8) (rw h at (known f n m b s))
-
-    pub bits_minus : b ≡ true → 0xFFFF_FFFF_FFFF_FFFF - n ≡ twos 8 z
-    unfolding twos
-    bits_minus h =
-        let e : 0xFFFF_FFFF_FFFF_FFFF - n ≡ 256 ^ 8 - suc n = omega arith in
-        e ∙ ap (twos 8) (rw h at (known f n m b s))
-
-pub small_minus : {z : ℤ} (f : SFits w64 z) (b : Bool) → b ≡ is_minus (again z) → b ≡ true → false ≡ small z
-small_minus f b s h = ap small (rw h at (known f _ refl b s))
+-- whether a kind before that of 1 byte holds z, which was handed to a callee as the machine reads it again
+pub shorter_one : {z : ℤ} (f : SFits w64 z) (k : ℕ) (r : Bool) → k ≡ 1 → r ≡ small (again z) → r ≡ shorter k z
+shorter_one f k r e h = rw (e, h, to_z-of_z f)
 
 -- ---- the bytes of a number
 
@@ -107,16 +64,3 @@ twos_take k m (negsuc n) l h =
     let r : 256 ^ k * 256 ^ (m - k) ≡ 256 ^ k * y + 256 ^ k = ap (λ i. 256 ^ k * i) o ∙ q in
     let e : 256 ^ m - suc n ≡ (256 ^ k - suc n) + 256 ^ k * y = omega tests in
     le_take k m (256 ^ m - suc n) l ∙ ap (le k) e ∙ le_above k (256 ^ k - suc n) y
-
--- ---- the number of some bytes
-
-module _ (k x h : ℕ) (z : ℤ) (e : h ≡ half k) (l : h ≤ 2 ^ 63) where
-  pub decode_plus : x < h → z ≡ of_sign false x → again z ≡ of_twos k x
-  unfolding of_twos
-  decode_plus p g = rw (g, ← e, lt-ltb x h p) (same (record { sfits = omega arith }))
-
-  pub decode_minus : h ≤ x → x < 256 ^ k → 2 * h ≡ 256 ^ k → z ≡ of_sign true (h - 1 - (x - h)) → again z ≡ of_twos k x
-  unfolding of_twos
-  decode_minus p q t g =
-      let n : h - 1 - (x - h) ≡ 256 ^ k - suc x = omega arith in
-      rw (g, ← e, le-ltb x h p, ← n) (same (record { sfits = omega arith }))

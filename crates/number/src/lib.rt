@@ -1,383 +1,228 @@
-// Numbers: which values are the decimal text of a signed 64-bit number, that text, and the bytes of the first kind that
-// holds the number. Each contract is an equation with layout's definitions.
-// A signed number is taken apart and put together in `is_minus`, `magnitude` and `signed` alone; all else is unsigned.
+//! Numbers: which values are the decimal text of a signed 64-bit number, that text, and the bytes of the first kind that
+//! holds the number. Each contract is an equation with layout's definitions.
 #![tactic(auto)]
 
-ghost use Rattle.std.specs.Prelude.{◌≡◌, [], ◌∷◌, ◌++◌, ◌+◌, ◌*◌, ◌%◌, ◌^◌, ◌≤◌, ◌<◌, length, take, replicate};
-ghost use Rattle.std.proofs.Math.Option.{some};
+ghost use Rattle.std.specs.Prelude.{◌≡◌, ◌∷◌, ◌*◌, ◌^◌, ◌≤◌, ◌<◌, leb, length, take, Some, None};
 ghost use Rattle.std.specs.Int.Signed.{mag};
 ghost use Rattle.layout.specs.Bytes.{le, pick};
-ghost use Rattle.layout.specs.Number.{half, holds, twos, of_twos, whole, signed64, plus, minus, number, digits, text};
+ghost use Rattle.layout.specs.Number.{half, holds, twos, of_twos, more, whole, minus, number, text};
 ghost use Rattle.layout.specs.Entry.{small, number_body};
-ghost use Rattle.number.specs.Signs.{is_minus, of_sign};
-ghost use Rattle.number.specs.Answers.{parsed, told};
-ghost use Rattle.number.specs.Digits.{last_digits};
-ghost use Rattle.number.specs.Front.{Front};
-ghost use Rattle.number.specs.Kinds.{shorter};
+ghost use Rattle.number.specs.Kinds.{shorter, byte_of, width_of};
 
-// What a value is.
-#[derive(Clone, Copy)]
-pub enum Parsed {
-    Number(i64),
-    Text,
+use arrayvec::{ArrayString, ArrayVec};
+use itoa::Buffer;
+
+/// A kind of number, by where its data lie.
+#[derive(Clone, Copy, Debug, PartialEq, Eq)]
+pub enum Kind {
+    /// The encoding byte itself says a number from 0 to 12.
+    Small { byte: u8 },
+    OneByte,
+    TwoBytes,
+    ThreeBytes,
+    FourBytes,
+    EightBytes,
 }
 
-// What bytes say that are digits only.
-#[derive(Clone, Copy)]
-enum Whole {
-    Is(u64),
-    Not,
+/// How many bytes a number's data take.
+#[derive(Clone, Copy, Debug, PartialEq, Eq)]
+pub struct Width {
+    pub bytes: usize,
+    ghost least: { 1 ≤ bytes },
+    ghost most: { bytes ≤ 8 },
 }
 
-// A number's decimal text: the first `len` of `bytes`.
-#[derive(Clone, Copy)]
-pub struct Decimal {
-    pub bytes: [u8; 20],
-    pub len: usize,
-}
+// ---- text
 
-// A kind of number: its encoding byte, and how many bytes of data follow.
-#[derive(Clone, Copy)]
-pub struct Kind {
-    pub byte: u8,
-    pub width: usize,
-}
-
-// A number's encoding and data: the first `len` of `bytes`.
-#[derive(Clone, Copy)]
-pub struct Encoded {
-    pub bytes: [u8; 9],
-    pub len: usize,
-}
-
-// ---- signs
-
-fn is_minus(z: i64) -> bool
-    ensures { result ≡ is_minus z }
+// The number that digits say, of which there are few enough for it to fit.
+#[tactic(auto, using(crate::proofs::Values::digit_more), unfolding(layout::specs::Number::more))]
+fn all_digits(v: &[u8]) -> Option<u64>
+    requires { length v.now ≤ 19 }
+    ensures { result ≡ more 0 v.now }
 {
-    z < 0
+    let mut n: u64 = 0;
+    for b in v {
+        if !b.is_ascii_digit() {
+            return None;
+        }
+        n = 10 * n + u64::from(*b - b'0');
+    }
+    Some(n)
 }
+
+// The whole number that bytes say, if 19 digits do.
+#[tactic(auto, unfolding(layout::specs::Number::whole, layout::specs::Number::more))]
+fn digits_of(v: &[u8]) -> Option<u64>
+    ensures { result ≡ pick (leb (length v.now) 19) (whole v.now) None }
+{
+    match v {
+        [] | [b'0', _, ..] => None,
+        _ if v.len() <= 19 => all_digits(v),
+        _ => None,
+    }
+}
+
+// n with a minus before it: there is no -0.
+#[tactic(auto, unfolding(layout::specs::Number::minus, layout::specs::Number::signed64, layout::specs::Number::holds))]
+fn negated(n: u64) -> Option<i64>
+    ensures { result ≡ minus (Some n) }
+{
+    if n == 0 {
+        return None;
+    }
+    0i64.checked_sub_unsigned(n)
+}
+
+/// The number that a value is the decimal text of, if it is one's.
+#[tactic(auto, using(crate::proofs::Values::number_laws))]
+pub fn parse(v: &[u8]) -> Option<i64>
+    ensures { result ≡ number v.now }
+{
+    match v {
+        [b'-', digits @ ..] => negated(digits_of(digits)?),
+        _ => i64::try_from(digits_of(v)?).ok(),
+    }
+}
+
+/// A number's decimal text.
+#[tactic(auto, using(crate::proofs::Texts::text_decimal))]
+pub fn text_of(z: i64) -> ArrayString<20>
+    ensures { result.bytes ≡ text z }
+{
+    let mut buffer = Buffer::new();
+    let mut text = ArrayString::new();
+    text.push_str(buffer.format(z));
+    text
+}
+
+// ---- kinds
 
 // n for n, and for -(n + 1).
 fn magnitude(z: i64) -> u64
     ensures { (result ≡ mag z) × (result < 2 ^ 63) }
 {
-    if is_minus(z) {
-        (-1 - z) as u64
-    } else {
-        z as u64
+    let n = if z < 0 { -1 - z } else { z };
+    n.cast_unsigned()
+}
+
+// The number that the encoding byte itself holds, if z is one.
+fn small(z: i64) -> Option<u8>
+    ensures { result ≡ pick (small z) (Some (mag z)) None }
+{
+    u8::try_from(z).ok().filter(|n| *n <= 12)
+}
+
+impl Width {
+    const ONE: Width = Width { bytes: 1 };
+
+    const TWO: Width = Width { bytes: 2 };
+
+    const THREE: Width = Width { bytes: 3 };
+
+    const FOUR: Width = Width { bytes: 4 };
+
+    // How many numbers of either sign it holds.
+    #[tactic(auto, using(crate::proofs::Widths::half_is))]
+    fn half(self) -> u64
+        ensures { (result ≡ half self.bytes) × (2 * result ≡ 256 ^ self.bytes) × (result ≤ 2 ^ 63) }
+    {
+        1u64 << (8 * self.bytes - 1)
     }
-}
 
-// -(n + 1) below zero, else n.
-fn signed(below: bool, n: u64) -> i64
-    requires { n < 2 ^ 63 }
-    ensures { result ≡ of_sign below n }
-{
-    let z = n as i64;
-    if below { -1 - z } else { z }
-}
-
-// ---- from text
-
-fn wide(b: u8) -> u64
-    ensures { result ≡ b }
-{
-    b as u64
-}
-
-// The whole number that bytes say, of which there are few enough for it to fit.
-#[tactic(auto, using(crate::proofs::Values::digits_of_laws))]
-fn digits_of(v: &[u8]) -> Whole
-    requires { length v.now ≤ 19 }
-    ensures { told result ≡ whole v.now }
-{
-    if v.len() == 0 {
-        return Whole::Not;
+    // Whether it holds z.
+    #[tactic(auto, unfolding(layout::specs::Number::holds))]
+    fn holds(self, z: i64) -> bool
+        ensures { result ≡ holds self.bytes z }
+    {
+        magnitude(z) < self.half()
     }
-    if v[0] == b'0' {
-        if v.len() == 1 {
-            return Whole::Is(0);
+
+    /// Whether a kind before that of this width holds z.
+    #[tactic(auto, using(crate::proofs::Widths::shorter_one))]
+    pub fn has_shorter(self, z: i64) -> bool
+        ensures { result ≡ shorter self.bytes z }
+    {
+        match self.bytes {
+            1 => small(z).is_some(),
+            8 => Width::FOUR.holds(z),
+            k => Width { bytes: k - 1 }.holds(z),
         }
-        return Whole::Not;
     }
-    let mut n: u64 = 0;
-    let mut i = 0;
-    while i < v.len() {
-        let b = v[i];
-        if b < b'0' {
-            return Whole::Not;
+
+    /// The number that data of this width say, which say x without a sign.
+    #[tactic(auto, unfolding(layout::specs::Number::of_twos))]
+    pub fn decode(self, x: u64) -> i64
+        requires { x < 256 ^ self.bytes }
+        ensures { result ≡ of_twos self.bytes x }
+    {
+        let half = self.half();
+        if x < half {
+            x.cast_signed()
+        } else {
+            -1 - ((half - 1) - (x - half)).cast_signed()
         }
-        if b'9' < b {
-            return Whole::Not;
+    }
+}
+
+impl Kind {
+    /// The encoding byte.
+    pub fn byte(self) -> u8
+        ensures { result ≡ byte_of self }
+    {
+        match self {
+            Kind::Small { byte } => byte,
+            Kind::OneByte => 0xFE,
+            Kind::TwoBytes => 0xC0,
+            Kind::ThreeBytes => 0xF0,
+            Kind::FourBytes => 0xD0,
+            Kind::EightBytes => 0xE0,
         }
-        n = 10 * n + wide(b - b'0');
-        i += 1;
     }
-    Whole::Is(n)
-}
 
-// A number of 64 bits, or none.
-#[tactic(auto, using(crate::proofs::Values::held_laws))]
-fn held(below: bool, n: u64) -> Parsed
-    ensures { parsed result ≡ signed64 (of_sign below n) }
-{
-    if n < 0x8000_0000_0000_0000 {
-        Parsed::Number(signed(below, n))
-    } else {
-        Parsed::Text
-    }
-}
-
-// n with a minus before it or none: there is no -0.
-#[tactic(auto, using(crate::proofs::Values::with_sign_laws))]
-fn with_sign(below: bool, n: u64) -> Parsed
-    ensures { parsed result ≡ pick below (minus (some n)) (plus (some n)) }
-{
-    if below {
-        if n == 0 {
-            return Parsed::Text;
+    /// How many bytes of data follow it.
+    pub fn width(self) -> usize
+        ensures { (result ≡ width_of self) × (result ≤ 8) }
+    {
+        match self {
+            Kind::Small { .. } => 0,
+            Kind::OneByte => 1,
+            Kind::TwoBytes => 2,
+            Kind::ThreeBytes => 3,
+            Kind::FourBytes => 4,
+            Kind::EightBytes => 8,
         }
-        held(true, n - 1)
-    } else {
-        held(false, n)
     }
 }
 
-// What follows a minus, or where there is none the whole value: 20 digits are past 64 bits.
-#[tactic(auto, using(crate::proofs::Values::after_sign_laws))]
-fn after_sign(below: bool, v: &[u8]) -> Parsed
-    ensures { parsed result ≡ pick below (minus (whole v.now)) (plus (whole v.now)) }
-{
-    if 19 < v.len() {
-        return Parsed::Text;
-    }
-    match digits_of(v) {
-        Whole::Is(n) => with_sign(below, n),
-        Whole::Not => Parsed::Text,
-    }
-}
-
-// The number that a value is the decimal text of, if it is one's.
-#[tactic(auto, using(crate::proofs::Values::parse_laws))]
-pub fn parse(v: &[u8]) -> Parsed
-    ensures { parsed result ≡ number v.now }
-{
-    if v.len() == 0 {
-        return Parsed::Text;
-    }
-    if v[0] == b'-' {
-        after_sign(true, &v[1..])
-    } else {
-        after_sign(false, v)
-    }
-}
-
-// ---- to text
-
-// How many digits n has.
-fn count_of(n: u64) -> usize
-    requires { n < 10 ^ 19 }
-    ensures { (digits 20 n [] ≡ last_digits result n []) × (result ≤ 19) }
-{
-    let mut count = 1;
-    let mut limit: u64 = 10;
-    while limit <= n {
-        limit = 10 * limit;
-        count += 1;
-    }
-    count
-}
-
-// The last `count` digits of n from `at` on, after minus signs.
-fn digits_at(n: u64, at: usize, count: usize) -> [u8; 20]
-    requires { at + count ≤ 20 }
-    ensures { (take (at + count) result ≡ replicate at 45 ++ last_digits count n []) × (length result ≡ 20) }
-{
-    let mut bytes = [b'-'; 20];
-    let mut left = n;
-    let mut i = count;
-    while 0 < i {
-        i -= 1;
-        bytes[at + i] = b'0' + (left % 10) as u8;
-        left = left / 10;
-    }
-    bytes
-}
-
-// Minus signs, and the digits of n.
-fn signs_and_digits(signs: usize, n: u64) -> Decimal
-    requires { (signs ≤ 1) × (n < 10 ^ 19) }
-    ensures { Front 20 result.len result.bytes (replicate signs 45 ++ digits 20 n []) }
-{
-    let count = count_of(n);
-    let bytes = digits_at(n, signs, count);
-    Decimal {
-        bytes,
-        len: signs + count,
-    }
-}
-
-// A number's decimal text.
-pub fn text_of(z: i64) -> Decimal
-    ensures { Front 20 result.len result.bytes (text z) }
-{
-    let n = magnitude(z);
-    if is_minus(z) {
-        signs_and_digits(1, n + 1)
-    } else {
-        signs_and_digits(0, n)
-    }
-}
-
-// ---- kinds
-
-// How many numbers of either sign k bytes hold.
-fn half_of(k: usize) -> u64
-    requires { (1 ≤ k) × (k ≤ 8) }
-    ensures { (result ≡ half k) × (2 * result ≡ 256 ^ k) × (result ≤ 2 ^ 63) }
-{
-    1u64 << (8 * k - 1)
-}
-
-// Whether k bytes hold z.
-fn fits(k: usize, z: i64) -> bool
-    requires { (1 ≤ k) × (k ≤ 8) }
-    ensures { result ≡ holds k z }
-{
-    magnitude(z) < half_of(k)
-}
-
-// Whether the encoding byte itself holds z: 0 to 12.
-fn is_small(z: i64) -> bool
-    ensures { result ≡ small z }
-{
-    if is_minus(z) {
-        false
-    } else {
-        magnitude(z) <= 12
-    }
-}
-
-// Whether a kind before that of k bytes holds z.
-#[tactic(auto, using(crate::proofs::Encodings::shorter_one))]
-pub fn has_shorter(k: usize, z: i64) -> bool
-    requires { (1 ≤ k) × (k ≤ 8) }
-    ensures { result ≡ shorter k z }
-{
-    if k == 1 {
-        is_small(z)
-    } else if k == 8 {
-        fits(4, z)
-    } else {
-        fits(k - 1, z)
-    }
-}
-
-// The first kind that holds z. Its data are the first bytes of z in 8.
+/// The first kind that holds z. Its data are the first bytes of z in 8.
 #[tactic(auto, using(crate::proofs::Encodings::kind_of_laws), unfolding(layout::specs::Entry::number_body))]
 pub fn kind_of(z: i64) -> Kind
-    ensures { (number_body z ≡ result.byte ∷ take result.width (le 8 (twos 8 z))) × (result.width ≤ 8) }
+    ensures { (number_body z ≡ byte_of result ∷ take (width_of result) (le 8 (twos 8 z))) × (width_of result ≤ 8) }
 {
-    if is_small(z) {
-        Kind {
-            byte: 0xF1 + magnitude(z) as u8,
-            width: 0,
-        }
-    } else if fits(1, z) {
-        Kind {
-            byte: 0xFE,
-            width: 1,
-        }
-    } else if fits(2, z) {
-        Kind {
-            byte: 0xC0,
-            width: 2,
-        }
-    } else if fits(3, z) {
-        Kind {
-            byte: 0xF0,
-            width: 3,
-        }
-    } else if fits(4, z) {
-        Kind {
-            byte: 0xD0,
-            width: 4,
-        }
+    if let Some(n) = small(z) {
+        Kind::Small { byte: 0xF1 + n }
+    } else if Width::ONE.holds(z) {
+        Kind::OneByte
+    } else if Width::TWO.holds(z) {
+        Kind::TwoBytes
+    } else if Width::THREE.holds(z) {
+        Kind::ThreeBytes
+    } else if Width::FOUR.holds(z) {
+        Kind::FourBytes
     } else {
-        Kind {
-            byte: 0xE0,
-            width: 8,
-        }
+        Kind::EightBytes
     }
 }
 
-// ---- bytes
-
-// z in two's complement.
-fn bits(z: i64) -> u64
-    ensures { result ≡ twos 8 z }
-{
-    let n = magnitude(z);
-    if is_minus(z) {
-        0xFFFF_FFFF_FFFF_FFFF - n
-    } else {
-        n
-    }
-}
-
-// The lowest byte.
-fn low(x: u64) -> u8
-    ensures { result ≡ x % 256 }
-{
-    (x % 256) as u8
-}
-
-// b, and x in 8 bytes: the compiler makes one store of them.
-fn with_byte(b: u8, x: u64) -> [u8; 9]
-    ensures { (result ≡ b ∷ le 8 x) × (length result ≡ 9) }
-{
-    let x1 = x / 256;
-    let x2 = x1 / 256;
-    let x3 = x2 / 256;
-    let x4 = x3 / 256;
-    let x5 = x4 / 256;
-    let x6 = x5 / 256;
-    let x7 = x6 / 256;
-    [
-        b,
-        low(x),
-        low(x1),
-        low(x2),
-        low(x3),
-        low(x4),
-        low(x5),
-        low(x6),
-        low(x7),
-    ]
-}
-
-// A number's encoding and data, in the first kind that holds it.
-pub fn encode(z: i64) -> Encoded
-    ensures { Front 9 result.len result.bytes (number_body z) }
+/// A number's encoding and data, in the first kind that holds it.
+#[tactic(auto, using(crate::proofs::Encodings::body_bytes))]
+pub fn encode(z: i64) -> ArrayVec<u8, 9>
+    ensures { result.items ≡ number_body z }
 {
     let kind = kind_of(z);
-    let bytes = with_byte(kind.byte, bits(z));
-    Encoded {
-        bytes,
-        len: 1 + kind.width,
-    }
-}
-
-// The number that k bytes say, which say x without a sign.
-pub fn decode(x: u64, k: usize) -> i64
-    requires { (1 ≤ k) × (k ≤ 8) × (x < 256 ^ k) }
-    ensures { result ≡ of_twos k x }
-{
-    let half = half_of(k);
-    if x < half {
-        signed(false, x)
-    } else {
-        signed(true, (half - 1) - (x - half))
-    }
+    let data = z.to_le_bytes();
+    let mut body = ArrayVec::new();
+    body.push(kind.byte());
+    body.try_extend_from_slice(&data[..kind.width()]).unwrap();
+    body
 }
