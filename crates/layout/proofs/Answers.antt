@@ -1,69 +1,94 @@
 -- What an answer tells loses nothing: the answer is had back from what it tells.
-use mathlib.Core.Path.{◌≡◌}
-use Prim.Native.Nat.{ℕ, ◌-◌}
-use native.Mathlib.Omega.{arith}
-use mathlib.Core.List.{List, [], ◌∷◌}
-use lib.ListN.{get_or}
-use lib.Dec.{eqb}
-use Rattle.std.specs.Prelude.{Option, Some, None, Ok, Err}
+use Rattle.std.proofs.Common.{◌≡◌, ◌≢◌, refl, ℕ, suc, ◌-◌, List, [], ◌∷◌, get_or, eqb, Option, Some, None, Result, Ok, Err, arith, ne_eqb}
 use Rattle.layout.specs.Bytes.{pick}
-use Rattle.layout.specs.Answers.{number_of, Answer}
-use Rattle.layout.specs.Answers.{Check, check_of, Count, count_of, Place, place_of, Content, content_of, Change, change_of}
+use Rattle.layout.specs.Answers.{number_of, telling, Check, check_done, check_refused, Count, count_good, count_refused}
+use Rattle.layout.specs.Answers.{Place, place_found, place_refused, Content, content_told, content_refused, Change, change_edited, change_refused}
 use Rattle.layout.specs.declared.answer.Refusal.{Refusal}
 use Rattle.layout.specs.declared.answer.Checked.{Checked}
 use Rattle.layout.specs.declared.answer.Told.{Told}
 use Rattle.layout.specs.declared.answer.Edited.{Edited}
 
--- the refusals, in the order of their numbers
+-- ---- refusals that are told by a number
+
+-- none has the number 0, and each is had back from its own
+pub record Numbered (R : Type 0) : Type 0 where
+  pub number : R → ℕ
+  pub refusal : ℕ → R
+  pub some : (r : R) → number r ≢ 0
+  pub back : (r : R) → refusal (number r) ≡ r
+
+-- the refusals of this crate, in the order of their numbers
 refusals : List Refusal
 refusals =
     Refusal.BadSize ∷ Refusal.Torn ∷ Refusal.BadPrevious ∷ Refusal.NotPlain ∷ Refusal.UnknownEncoding ∷ Refusal.BadTail ∷ Refusal.BadCount
     ∷ Refusal.NoSuchPosition ∷ Refusal.OverLimit ∷ Refusal.OverBuffer ∷ Refusal.ShortOutput ∷ []
 
--- the answer that has the number n: what was done where it is 0, and else a refusal
-pub answered : {A : Type 0} → ℕ → A → Answer A
-answered n done = pick (eqb n 0) (Ok done) (Err (get_or refusals (n - 1) Refusal.ShortOutput))
+some_is : (r : Refusal) → number_of r ≢ 0
+some_is r = grind arith
 
-refused_back : {A : Type 0} (done : A) (r : Refusal) → answered (number_of r) done ≡ Err r
-unfolding answered refusals
-refused_back done r = grind arith
+back_is : (r : Refusal) → get_or refusals (number_of r - 1) Refusal.ShortOutput ≡ r
+unfolding refusals
+back_is r = grind arith
+
+pub numbered : Numbered Refusal
+numbered = record { number = number_of; refusal = λ n. get_or refusals (n - 1) Refusal.ShortOutput; some = some_is; back = back_is }
+
+-- and any number above 0, each told by itself
+pub positive : Numbered ℕ
+positive = record { number = λ n. suc n; refusal = λ n. n - 1; some = λ n e. cc; back = λ n. omega arith }
 
 -- ---- each kind of answer: the one that tells t, and that it is had back
 
-pub checked_of : Check → Answer Checked
-checked_of t = answered t.number (record { count = t.count; size = t.size })
+module _ {R : Type 0} (N : Numbered R) where
+  -- what was done where the number is 0, and else the refusal with it
+  answered : {A : Type 0} → ℕ → A → Result A R
+  answered n done = pick (eqb n 0) (Ok done) (Err (N.refusal n))
 
-pub checked_back : (a : Answer Checked) → checked_of (check_of a) ≡ a
-unfolding checked_of answered
-checked_back a = grind (arith, refused_back)
+  refused_back : {A : Type 0} (done : A) (r : R) → answered (N.number r) done ≡ Err r
+  unfolding answered
+  refused_back done r = rw (ne_eqb (N.number r) 0 (N.some r), N.back r)
 
-pub counted_of : Count → Answer ℕ
-counted_of t = answered t.number t.count
+  pub checked_of : Check → Result Checked R
+  checked_of t = answered t.number (record { count = t.count; size = t.size })
 
-pub counted_back : (a : Answer ℕ) → counted_of (count_of a) ≡ a
-unfolding counted_of answered
-counted_back a = grind (arith, refused_back)
+  pub checked_back : (a : Result Checked R) → checked_of (telling N.number check_done check_refused a) ≡ a
+  unfolding checked_of answered
+  checked_back (Ok c) = refl
+  checked_back (Err r) = refused_back _ r
 
-pub found_of : Place → Answer (Option ℕ)
-found_of t = answered t.number (pick t.none None (Some t.index))
+  pub counted_of : Count → Result ℕ R
+  counted_of t = answered t.number t.count
 
-pub found_back : (a : Answer (Option ℕ)) → found_of (place_of a) ≡ a
-unfolding found_of answered
-found_back a = grind (arith, refused_back)
+  pub counted_back : (a : Result ℕ R) → counted_of (telling N.number count_good count_refused a) ≡ a
+  unfolding counted_of answered
+  counted_back (Ok n) = refl
+  counted_back (Err r) = refused_back _ r
 
-pub told_of : Content → Answer Told
-told_of t = answered t.number (pick t.text (Told.Text t.index t.length) (Told.Number t.index t.value))
+  pub found_of : Place → Result (Option ℕ) R
+  found_of t = answered t.number (pick t.none None (Some t.index))
 
-pub told_back : (a : Answer Told) → told_of (content_of a) ≡ a
-unfolding told_of answered
-told_back a = grind (arith, refused_back)
+  pub found_back : (a : Result (Option ℕ) R) → found_of (telling N.number place_found place_refused a) ≡ a
+  unfolding found_of answered
+  found_back (Ok (Some i)) = refl
+  found_back (Ok None) = refl
+  found_back (Err r) = refused_back _ r
 
-pub edited_of : Change → Answer Edited
-edited_of t = answered t.number (record { size = t.size; report = t.report })
+  pub told_of : Content → Result Told R
+  told_of t = answered t.number (pick t.text (Told.Text t.index t.length) (Told.Number t.index t.value))
 
-pub edited_back : (a : Answer Edited) → edited_of (change_of a) ≡ a
-unfolding edited_of answered
-edited_back a = grind (arith, refused_back)
+  pub told_back : (a : Result Told R) → told_of (telling N.number content_told content_refused a) ≡ a
+  unfolding told_of answered
+  told_back (Ok (Told.Number i z)) = refl
+  told_back (Ok (Told.Text i n)) = refl
+  told_back (Err r) = refused_back _ r
+
+  pub edited_of : Change → Result Edited R
+  edited_of t = answered t.number (record { size = t.size; report = t.report })
+
+  pub edited_back : (a : Result Edited R) → edited_of (telling N.number change_edited change_refused a) ≡ a
+  unfolding edited_of answered
+  edited_back (Ok e) = refl
+  edited_back (Err r) = refused_back _ r
 
 -- ---- two answers that tell the same are one
 

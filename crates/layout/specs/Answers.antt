@@ -8,7 +8,7 @@ use Rattle.layout.specs.declared.answer.Checked.{Checked}
 use Rattle.layout.specs.declared.answer.Told.{Told}
 use Rattle.layout.specs.declared.answer.Edited.{Edited}
 
--- the number of a refusal
+-- the number of a refusal, in 01's table
 abbrev pub number_of : Refusal → ℕ
 number_of Refusal.BadSize = 1
 number_of Refusal.Torn = 2
@@ -25,10 +25,10 @@ number_of Refusal.ShortOutput = 11
 abbrev pub Answer : Type 0 → Type 0
 Answer A = Result A Refusal
 
--- what an answer tells: done beside what was found, or the refusal's number beside zeros
-abbrev pub telling : {A T : Type 0} → (A → T) → (ℕ → T) → Answer A → T
-telling done refused (Ok a) = done a
-telling done refused (Err r) = refused (number_of r)
+-- what an answer tells: 0 beside what was found, or the refusal's number beside zeros
+abbrev pub telling : {A R T : Type 0} → (R → ℕ) → (A → T) → (ℕ → T) → Result A R → T
+telling number done refused (Ok a) = done a
+telling number done refused (Err r) = refused (number r)
 
 -- ---- a check
 
@@ -43,8 +43,11 @@ check_good n z = record { number = 0; count = n; size = z }
 abbrev pub check_refused : ℕ → Check
 check_refused k = record { number = k; count = 0; size = 0 }
 
+abbrev pub check_done : Checked → Check
+check_done c = check_good c.count c.size
+
 abbrev pub check_of : Answer Checked → Check
-check_of = telling (λ c. check_good c.count c.size) check_refused
+check_of = telling number_of check_done check_refused
 
 -- ---- a count
 
@@ -59,7 +62,7 @@ abbrev pub count_refused : ℕ → Count
 count_refused k = record { number = k; count = 0 }
 
 abbrev pub count_of : Answer ℕ → Count
-count_of = telling count_good count_refused
+count_of = telling number_of count_good count_refused
 
 -- ---- a step or a search: whether "none" or "absent" is said, and the position
 
@@ -82,7 +85,7 @@ place_found (Some i) = place_at i
 place_found None = place_none
 
 abbrev pub place_of : Answer (Option ℕ) → Place
-place_of = telling place_found place_refused
+place_of = telling number_of place_found place_refused
 
 -- ---- reading an entry: its position, whether it is text, the number, and the text's length
 
@@ -107,7 +110,7 @@ content_told (Told.Number i z) = content_number i z
 content_told (Told.Text i n) = content_text i n
 
 abbrev pub content_of : Answer Told → Content
-content_of = telling content_told content_refused
+content_of = telling number_of content_told content_refused
 
 -- ---- an edit
 
@@ -122,5 +125,8 @@ change_done z n = record { number = 0; size = z; report = n }
 abbrev pub change_refused : ℕ → Change
 change_refused k = record { number = k; size = 0; report = 0 }
 
+abbrev pub change_edited : Edited → Change
+change_edited e = change_done e.size e.report
+
 abbrev pub change_of : Answer Edited → Change
-change_of = telling (λ e. change_done e.size e.report) change_refused
+change_of = telling number_of change_edited change_refused

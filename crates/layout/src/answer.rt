@@ -1,9 +1,12 @@
 //! What calls answer. An empty list is an answer and a list that cannot be read is a refusal: no answer is both.
-//! specs/Answers gives the papers' number and values for every case, and promises speak through it.
-ghost use Rattle.std.specs.Prelude.{◌≡◌};
+//! specs/Answers gives the number and the values that each case tells, and promises speak through it.
+ghost use Rattle.std.specs.Prelude.{◌≡◌, ◌++◌, Some, codes, decimal};
 ghost use Rattle.layout.specs.Answers.{number_of};
 
-/// Why a call says no. The numbers are the papers' table; 0 is its "done", and no refusal.
+use std::error::Error;
+use std::fmt;
+
+/// Why a call says no. Outside it is told by its number: 0 says done, and is none of them.
 #[derive(Clone, Copy, Debug, PartialEq, Eq)]
 pub enum Refusal {
     /// The buffer is under the smallest list; or the size that the list states is under it, over the limit or over the buffer.
@@ -30,15 +33,25 @@ pub enum Refusal {
     ShortOutput = 11,
 }
 
-impl Refusal {
-    /// The papers' number.
-    pub fn number(self) -> u32
-        ensures { result ≡ number_of self }
-    {
+impl From<Refusal> for u32 {
+    ghost from_gives = { λ r n. n ≡ number_of r };
+
+    fn from(refusal: Refusal) -> u32 {
         // Nothing but `as` reads a discriminant.
-        self as u32
+        refusal as u32
     }
 }
+
+impl fmt::Display for Refusal {
+    ghost output = { λ r. Some (codes "refused " ++ decimal (number_of r)) };
+
+    fn fmt<W: fmt::Write>(&self, f: &mut fmt::Formatter<W>) -> fmt::Result {
+        let number = u32::from(*self);
+        write!(f, "refused {number}")
+    }
+}
+
+impl Error for Refusal {}
 
 /// What a call answers, or why it says no.
 pub type Answer<T> = Result<T, Refusal>;

@@ -1,5 +1,5 @@
 -- The first kind that holds a number, and its bytes.
-use Rattle.std.proofs.Common.{◌≡◌, refl, sym, ap, ◌∙◌, ℕ, zero, suc, ◌+◌, ◌/◌, ◌%◌, ◌^◌, ◌≤◌, Bool, true, Some, None, ◌∷◌, take, ℤ, pos, negsuc, SFits, w64, of_z, to_z-of_z, arith, take_all}
+use Rattle.std.proofs.Common.{◌≡◌, refl, sym, ap, ◌∙◌, ℕ, zero, suc, ◌+◌, ◌/◌, ◌%◌, ◌^◌, ◌≤◌, Bool, true, ◌∷◌, take, ℤ, pos, negsuc, SFits, w64, of_z, to_z-of_z, arith, take_all}
 use Rattle.std.proofs.Math.Nat.{pow-suc, div-div-eq-div-mul}
 use Rattle.std.specs.Int.Signed.{mag}
 use Rattle.std.specs.Int.{to_le_bytes, bytes_low_first, byte_at}
@@ -8,11 +8,11 @@ use Rattle.layout.specs.Number.{holds, twos}
 use Rattle.layout.specs.Entry.{small, number_body}
 use Rattle.layout.proofs.Bytes.{le_length}
 use Rattle.number.proofs.Signs.{again}
-use Rattle.number.proofs.Widths.{twos_take}
+use Rattle.number.proofs.Numbers.{twos_take}
 
 -- ---- the first kind that holds z, by the tests in turn
 
-abbrev in_kind : ℕ → ℕ → ℤ → Bytes
+abbrev pub in_kind : ℕ → ℕ → ℤ → Bytes
 in_kind b k z = b ∷ take k (le 8 (twos 8 z))
 
 small_body : (z : ℤ) → small z ≡ true → number_body z ≡ in_kind (0xF1 + mag z) 0 z
@@ -22,10 +22,9 @@ small_body (negsuc n) h = cc
 
 -- of a number that was handed to callees as the machine reads it again
 module _ {z : ℤ} (f : SFits w64 z) where
-  -- the encoding byte holds it
-  pub kind_small : (n : ℕ) → Some n ≡ pick (small (again z)) (Some (mag (again z))) None
-      → number_body z ≡ in_kind (0xF1 + n) 0 z
-  kind_small n = rw (to_z-of_z f) λ e. grind (arith, small_body z)
+  -- the encoding byte says it
+  pub kind_small : (n : ℕ) → small (again z) ≡ true → n ≡ mag (again z) → number_body z ≡ in_kind (0xF1 + n) 0 z
+  kind_small n h e = rw e (rw (to_z-of_z f) (small_body z (rw (to_z-of_z f) at h)))
 
   -- k bytes do: the data are the first of the 8
   pub here : (k : ℕ) (b : Bool) → b ≡ holds k (again z) → b ≡ true → k ≤ 8 → (e : ℕ) (r : Bytes)

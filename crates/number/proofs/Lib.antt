@@ -2,5 +2,6 @@
 pub mod Signs
 pub mod Values
 pub mod Texts
-pub mod Widths
+pub mod Numbers
 pub mod Encodings
+pub mod Kept

@@ -101,4 +101,4 @@ module _ (v : Bytes) (r : Option ℤ) where
     pub plus_some : (n : ℕ) → Some n ≡ few v → r ≡ plus (Some n) → r ≡ number v
     plus_some n f g = plus_of (Some n) f g
 
-pub ruleset number_laws = (minus_none, minus_some, plus_none, plus_some, plus_held)
+pub ruleset parse_laws = (minus_none, minus_some, plus_none, plus_some, plus_held)

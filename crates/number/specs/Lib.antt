@@ -1,2 +1,3 @@
 -- What the contracts cite beside layout's definitions.
 pub mod Kinds
+pub mod Shorter

@@ -1,13 +1,13 @@
 -- A byte more fits where fewer than 8 were read.
-use Rattle.std.proofs.Common.{ℕ, ◌+◌, ◌*◌, ◌^◌, ◌≤◌, ◌<◌, Fits, w64, arith}
+use Rattle.std.proofs.Common.{◌≡◌, ℕ, suc, ◌+◌, ◌-◌, ◌*◌, ◌^◌, ◌≤◌, ◌<◌, Fits, w64, arith}
 use Rattle.std.proofs.Math.Nat.{pow-le-pow_right}
 
-module _ (k x : ℕ) (h : x < 256 ^ k) (l : k ≤ 7) where
-  small : x < 256 ^ 7
-  small = omega (arith, pow-le-pow_right {n = 256} (omega arith) {i = k} {j = 7} l)
+-- the bytes from i + 1 to w say x
+pub room : (w i x : ℕ) → x < 256 ^ (w - i) → 0 < i → w ≤ 8 → (m : ℕ) → m ≤ 256 * x + 255 → Fits w64 m
+room w i x h p q m e =
+    let l = pow-le-pow_right {n = 256} (omega arith) {i = w - i} {j = 7} (omega arith) in record { fits = omega (arith, l) }
 
-  pub product_fits : Fits w64 (256 * x)
-  product_fits = let s = small in record { fits = omega arith }
-
-  pub sum_fits : (b : ℕ) → b < 256 → Fits w64 (b + 256 * x)
-  sum_fits b m = let s = small in record { fits = omega arith }
+-- k bytes do
+pub sum_fits : (k x b : ℕ) → x < 256 ^ k → k ≤ 7 → b < 256 → Fits w64 (256 * x + b)
+sum_fits k x b h l m =
+    let e : suc k - 1 ≡ k = omega arith in room (suc k) 1 x (rw e h) (omega arith) (omega arith) (256 * x + b) (omega arith)

@@ -7,18 +7,19 @@ ghost use Rattle.std.specs.Prelude.{◌^◌, ◌≤◌, ◌<◌, length};
 use number::Width;
 use std::io;
 
-// The number that bytes say without a sign, the lowest byte first.
+// The number that bytes say without a sign, the lowest byte first: `from_le_bytes` reads 8 and no fewer.
 fn unsigned(bytes: &[u8]) -> u64
     requires { length bytes.now ≤ 8 }
     ensures { result < 256 ^ length bytes.now }
 {
-    match bytes {
-        [] => 0,
-        [low, high @ ..] => u64::from(*low) + 256 * unsigned(high),
+    let mut x: u64 = 0;
+    for b in bytes.iter().rev() {
+        x = 256 * x + u64::from(*b);
     }
+    x
 }
 
-// The number of an encoding with its data, if they are one's.
+// The number of an encoding that `encode` wrote.
 fn decoded(body: &[u8]) -> Option<i64> {
     let (first, data) = body.split_first()?;
     match data.len() {
@@ -28,7 +29,7 @@ fn decoded(body: &[u8]) -> Option<i64> {
     }
 }
 
-fn number(rt: &impl Print, z: i64) -> io::Result<()> {
+fn write_number(rt: &impl Print, z: i64) -> io::Result<()> {
     let text = number::text_of(z);
     let body = number::encode(z);
     print!(rt; " number {text} ")?;
@@ -43,7 +44,7 @@ fn number(rt: &impl Print, z: i64) -> io::Result<()> {
 
 fn verdict(rt: &impl Print, v: &[u8]) -> io::Result<()> {
     match number::parse(v) {
-        Some(z) => number(rt, z)?,
+        Some(z) => write_number(rt, z)?,
         None => print!(rt; " text")?,
     }
     println!(rt; "")

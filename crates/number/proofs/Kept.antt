@@ -1,0 +1,151 @@
+-- Laws that were landed and that docs/PORT.md names, with the definitions they speak of. No proof cites them today.
+use Rattle.std.proofs.Common.{◌≡◌, refl, sym, ap, ◌∙◌, ℕ, zero, suc, ◌+◌, ◌-◌, ◌*◌, ◌/◌, ◌%◌, ◌^◌, ◌≤◌, ◌<◌, leb, Bool, true, false, not, [], ◌∷◌, ◌++◌, length, take, drop, replicate, Option, Some, ℤ, pos, negsuc, ◌-ℤ◌, Fits, SFits, w64, to_z, to_z-of_z, arith, length-take-le, ne_eqb, add-one, one-add}
+use Rattle.std.proofs.lemmas.Int.{to_z_pos}
+use Rattle.std.specs.Int.Signed.{mag, lt_z, non_neg}
+use lib.Dec.{T}
+use lib.IntN.{nat_abs}
+use Rattle.layout.specs.Bytes.{Bytes, le, pick}
+use Rattle.layout.specs.Number.{holds, twos, digits, whole, plus, minus}
+use Rattle.layout.specs.Entry.{small, number_body}
+use Rattle.number.specs.Shorter.{shorter}
+use Rattle.number.proofs.Signs.{again}
+use Rattle.number.proofs.Encodings.{in_kind}
+
+-- ---- a sign and a magnitude: n for n, and for -(n + 1)
+
+abbrev pub is_minus : ℤ → Bool
+is_minus (pos n) = false
+is_minus (negsuc n) = true
+
+abbrev pub of_sign : Bool → ℕ → ℤ
+of_sign true n = negsuc n
+of_sign false n = pos n
+
+-- the machine's test
+pub sign_is : (z : ℤ) → SFits w64 z → lt_z (again z) (pos 0) ≡ is_minus z
+sign_is (pos n) f = rw (to_z-of_z f) (grind arith)
+sign_is (negsuc n) f = rw (to_z-of_z f) refl
+
+-- -1 - z, as the machine makes it
+other : (z : ℤ) → negsuc 0 -ℤ z ≡ of_sign (not (is_minus z)) (mag z)
+other (pos zero) = refl
+other (pos (suc n)) = ap negsuc (omega arith)
+other (negsuc n) = grind arith
+
+other_fits : (z : ℤ) → SFits w64 z → SFits w64 (negsuc 0 -ℤ z)
+other_fits (pos n) f = rw other (record { sfits = f.sfits })
+other_fits (negsuc n) f = rw other (record { sfits = f.sfits })
+
+turned : (z : ℤ) → SFits w64 z → again (negsuc 0 -ℤ again z) ≡ of_sign (not (is_minus z)) (mag z)
+turned z f = rw (to_z-of_z f, to_z-of_z (other_fits z f)) (other z)
+
+parts : (z : ℤ) → of_sign (is_minus z) (mag z) ≡ z
+parts (pos n) = refl
+parts (negsuc n) = refl
+
+-- what a cast to unsigned asks, and gives
+pub record Casts (x : ℤ) (n : ℕ) : Type 0 where
+  pub asked : T (non_neg x) × Fits w64 (nat_abs x)
+  pub gives : (nat_abs x ≡ n) × (nat_abs x < 2 ^ 63)
+
+casts : (x : ℤ) (n : ℕ) → x ≡ pos n → n < 2 ^ 63 → Casts x n
+casts x n e l = rw e (record { asked = (tt, record { fits = omega arith }); gives = (refl, l) })
+
+module _ (z : ℤ) (b : Bool) (f : SFits w64 z) (e : b ≡ is_minus (again z)) where
+  told : {t : Bool} → b ≡ t → is_minus z ≡ t
+  told h = sym (rw (to_z-of_z f) at e) ∙ h
+
+  pub plus_casts : b ≡ false → Casts (again z) (mag z)
+  plus_casts h = casts _ (mag z) (to_z-of_z f ∙ sym (parts z) ∙ ap (λ m. of_sign m (mag z)) (told h)) f.sfits
+
+  pub minus_casts : b ≡ true → Casts (again (negsuc 0 -ℤ again z)) (mag z)
+  minus_casts h = casts _ (mag z) (turned z f ∙ ap (λ m. of_sign (not m) (mag z)) (told h)) f.sfits
+
+module _ (b : Bool) (n : ℕ) (l : n < 2 ^ 63) where
+  pub put_fits : SFits w64 (negsuc 0 -ℤ to_z w64 n)
+  put_fits = rw (to_z_pos w64 n l) (other_fits (pos n) (record { sfits = l }))
+
+  pub put_minus : b ≡ true → again (negsuc 0 -ℤ to_z w64 n) ≡ of_sign b n
+  put_minus e = rw (e, to_z_pos w64 n l, to_z-of_z (other_fits (pos n) (record { sfits = l }))) (other (pos n))
+
+  pub put_plus : b ≡ false → to_z w64 n ≡ of_sign b n
+  put_plus e = rw e (to_z_pos w64 n l)
+
+-- ---- the kinds, by the tests of a number as the machine reads it again
+
+small_most : (z : ℤ) → small z ≡ true → mag z ≤ 12
+small_most (pos n) h = grind arith
+small_most (negsuc n) h = cc
+
+-- z from its sign and its magnitude
+known : {z : ℤ} (f : SFits w64 z) (n : ℕ) → n ≡ mag (again z) → (b : Bool) → b ≡ is_minus (again z) → of_sign b n ≡ z
+known {z} f n m b s = rw (s, m, to_z-of_z f) (parts z)
+
+module _ {z : ℤ} (f : SFits w64 z) where
+  pub size_small : (n : ℕ) → n ≡ mag (again z) → (s : Bool) → s ≡ small (again z) → s ≡ true → n ≤ 12
+  size_small n m s is h = rw (m, to_z-of_z f) (small_most z (rw (to_z-of_z f) at (sym is ∙ h)))
+
+  pub small_plus : (n : ℕ) → n ≡ mag (again z) → (b : Bool) → b ≡ is_minus (again z) → b ≡ false → leb n 12 ≡ small z
+  small_plus n m b s h = ap small (rw h at (known f n m b s))
+
+  pub small_minus : (b : Bool) → b ≡ is_minus (again z) → b ≡ true → false ≡ small z
+  small_minus b s h = ap small (rw h at (known f _ refl b s))
+
+  module _ (k : ℕ) (r : Bool) (n : k ≡ 1 → ⊥) where
+    pub shorter_eight : k ≡ 8 → r ≡ holds 4 (again z) → r ≡ shorter k z
+    shorter_eight e h = rw (ne_eqb k 1 n, e, h, to_z-of_z f) refl
+
+    pub shorter_less : (k ≡ 8 → ⊥) → r ≡ holds (k - 1) (again z) → r ≡ shorter k z
+    shorter_less m h = rw (ne_eqb k 1 n, ne_eqb k 8 m, h, to_z-of_z f) refl
+
+  pub encoded : (b w x : ℕ) (bytes : Bytes) → number_body (again z) ≡ in_kind b w (again z) → x ≡ twos 8 (again z)
+      → bytes ≡ b ∷ le 8 x → take (1 + w) bytes ≡ number_body z
+  encoded b w x bytes k t e = rw (one-add, e, t) (sym k ∙ ap number_body (to_z-of_z f))
+
+-- ---- digits by their count, and bytes at the front of an array
+
+-- the last c digits of n, before ds
+unfoldable pub last_digits : ℕ → ℕ → Bytes → Bytes
+last_digits zero n ds = ds
+last_digits (suc c) n ds = last_digits c (n / 10) ((48 + n % 10) ∷ ds)
+
+pub power_next : (c m : ℕ) → m ≡ 10 ^ c → 10 * m ≡ 10 ^ (c + 1)
+power_next c m e = rw add-one (omega arith)
+
+-- with i digits to go: the signs are there, and the digits written follow those to go
+pub record Written (n at count : ℕ) (bytes : Bytes) (left i : ℕ) : Type 0 where
+  pub most : i ≤ count
+  pub size : length bytes ≡ 20
+  pub signs : take at bytes ≡ replicate at 45
+  pub rest : last_digits count n [] ≡ last_digits i left (take (count - i) (drop (at + i) bytes))
+
+take_replicate : (k m a : ℕ) → k ≤ m → take k (replicate m a) ≡ replicate k a
+take_replicate zero m a l = refl
+take_replicate (suc k) zero a l = absurd (omega arith)
+take_replicate (suc k) (suc m) a l = ap (λ bs. a ∷ bs) (take_replicate k m a (omega arith))
+
+pub written_none : (n at count : ℕ) → at + count ≤ 20 → Written n at count (replicate 20 45) n count
+written_none n at count fits =
+    let e : count - count ≡ 0 = omega arith in
+    record { most = omega arith; size = refl; signs = take_replicate at 20 45 (omega arith); rest = rw e refl }
+
+pub with_signs : (signs count n : ℕ) (bytes : Bytes) → digits 20 n [] ≡ last_digits count n []
+    → take (signs + count) bytes ≡ replicate signs 45 ++ last_digits count n []
+    → take (signs + count) bytes ≡ replicate signs 45 ++ digits 20 n []
+with_signs signs count n bytes e h = rw e h
+
+-- the first len of the bytes, which are room in all, are xs
+pub record Front (room len : ℕ) (bytes xs : Bytes) : Type 0 where
+  pub is : take len bytes ≡ xs
+  pub size : length bytes ≡ room
+  pub most : len ≤ room
+  pub count : len ≡ length (take len bytes)
+
+pub front : (room len : ℕ) (bytes xs : Bytes) → take len bytes ≡ xs → length bytes ≡ room → len ≤ room → Front room len bytes xs
+front room len bytes xs e s l = record { is = e; size = s; most = l; count = sym (length-take-le len bytes (omega arith)) }
+
+-- ---- what the digits came to
+
+pub told_number : (b : Bool) (v : Bytes) (w : Option ℕ) (n : ℕ) (o : Option ℤ) → w ≡ whole v → w ≡ Some n
+    → o ≡ pick b (minus (Some n)) (plus (Some n)) → o ≡ pick b (minus (whole v)) (plus (whole v))
+told_number b v w n o e i h = rw (← e, i) h
