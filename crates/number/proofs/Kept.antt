@@ -36,7 +36,7 @@ other_fits : (z : ℤ) → SFits w64 z → SFits w64 (negsuc 0 -ℤ z)
 other_fits (pos n) f = rw other (record { sfits = f.sfits })
 other_fits (negsuc n) f = rw other (record { sfits = f.sfits })
 
-turned : (z : ℤ) → SFits w64 z → again (negsuc 0 -ℤ again z) ≡ of_sign (not (is_minus z)) (mag z)
+pub turned : (z : ℤ) → SFits w64 z → again (negsuc 0 -ℤ again z) ≡ of_sign (not (is_minus z)) (mag z)
 turned z f = rw (to_z-of_z f, to_z-of_z (other_fits z f)) (other z)
 
 parts : (z : ℤ) → of_sign (is_minus z) (mag z) ≡ z
@@ -78,7 +78,7 @@ small_most (pos n) h = grind arith
 small_most (negsuc n) h = cc
 
 -- z from its sign and its magnitude
-known : {z : ℤ} (f : SFits w64 z) (n : ℕ) → n ≡ mag (again z) → (b : Bool) → b ≡ is_minus (again z) → of_sign b n ≡ z
+pub known : {z : ℤ} (f : SFits w64 z) (n : ℕ) → n ≡ mag (again z) → (b : Bool) → b ≡ is_minus (again z) → of_sign b n ≡ z
 known {z} f n m b s = rw (s, m, to_z-of_z f) (parts z)
 
 module _ {z : ℤ} (f : SFits w64 z) where

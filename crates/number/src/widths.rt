@@ -13,7 +13,7 @@ pub struct Small {
 }
 
 impl Small {
-    // z, if it is one.
+    // z, if it is one: nobody asks why another is not, so no `TryFrom` with an error.
     pub(crate) fn of(z: i64) -> Option<Small>
         ensures some { IfSome result (λ s. (small z ≡ true) × (s.number ≡ mag z)) }
         ensures none { IfNone result (small z ≡ false) }
