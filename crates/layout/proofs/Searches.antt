@@ -1,11 +1,5 @@
 -- A search's answer is the first equal value among those it looks at; where it says absent, none of them is equal.
-use mathlib.Core.Path.{◌≡◌, refl, sym, ap}
-use mathlib.Core.Logic.{◌≢◌}
-use Prim.Native.Nat.{ℕ, zero, suc, ◌+◌, ◌*◌, ◌<◌}
-use native.Mathlib.Omega.{arith}
-use mathlib.Core.Bool.{false}
-use mathlib.Core.List.{List, [], ◌∷◌}
-use lib.ListN.{length, get_or}
+use Rattle.std.proofs.Common.{◌≡◌, refl, sym, ap, ◌≢◌, ℕ, zero, suc, ◌+◌, ◌*◌, ◌<◌, arith, false, List, [], ◌∷◌, length, get_or}
 use Rattle.layout.specs.Bytes.{same}
 use Rattle.layout.specs.Entry.{Value}
 use Rattle.layout.specs.Answers.{place_at, place_none}

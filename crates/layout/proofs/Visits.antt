@@ -1,13 +1,7 @@
 -- The walks by calls: forward they visit the values in order, backward in reverse; an index from either end names one entry.
-use mathlib.Core.Path.{◌≡◌, refl}
-use Prim.Native.Nat.{ℕ, zero, suc, ◌+◌, ◌-◌, ◌≤◌, ◌<◌}
-use native.Mathlib.Nat.{le_refl}
-use native.Mathlib.Omega.{arith}
-use mathlib.Core.List.{List, [], map, reverse, reverse-append}
-use lib.ListN.{length, take, drop, get_or}
-use lib.Seq.{take-suc, take_all}
+use Rattle.std.proofs.Common.{◌≡◌, refl, ℕ, zero, suc, ◌+◌, ◌-◌, ◌≤◌, ◌<◌, le_refl, arith, List, [], map, reverse, length, take, drop, get_or, take-suc, take_all, pos, negsuc}
+use Rattle.std.proofs.lemmas.List.{reverse-append}
 use Rattle.std.proofs.lemmas.List.{drop_more, drop_all}
-use lib.IntN.{pos, negsuc}
 use Rattle.layout.specs.Entry.{Value}
 use Rattle.layout.specs.Ziplist.{values}
 use Rattle.layout.specs.Calls.{within, before, first, last, next, previous, visits, get}

@@ -1,9 +1,7 @@
 -- Laws that were landed and that docs/PORT.md names, with the definitions they speak of. No proof cites them today.
-use Rattle.std.proofs.Common.{◌≡◌, refl, sym, ap, ◌∙◌, ℕ, zero, suc, ◌+◌, ◌-◌, ◌*◌, ◌/◌, ◌%◌, ◌^◌, ◌≤◌, ◌<◌, leb, Bool, true, false, not, [], ◌∷◌, ◌++◌, length, take, drop, replicate, Option, Some, ℤ, pos, negsuc, ◌-ℤ◌, Fits, SFits, w64, to_z, to_z-of_z, arith, length-take-le, ne_eqb, add-one, one-add}
+use Rattle.std.proofs.Common.{◌≡◌, refl, sym, ap, ◌∙◌, ℕ, zero, suc, ◌+◌, ◌-◌, ◌*◌, ◌/◌, ◌%◌, ◌^◌, ◌≤◌, ◌<◌, leb, Bool, true, false, not, [], ◌∷◌, ◌++◌, length, take, drop, replicate, Option, Some, ℤ, pos, negsuc, ◌-ℤ◌, Fits, SFits, w64, to_z, to_z-of_z, arith, length-take-le, ne_eqb, add-one, one-add, T, nat_abs}
 use Rattle.std.proofs.lemmas.Int.{to_z_pos}
 use Rattle.std.specs.Int.Signed.{mag, lt_z, non_neg}
-use lib.Dec.{T}
-use lib.IntN.{nat_abs}
 use Rattle.layout.specs.Bytes.{Bytes, le, pick}
 use Rattle.layout.specs.Number.{holds, twos, digits, whole, plus, minus}
 use Rattle.layout.specs.Entry.{small, number_body}
