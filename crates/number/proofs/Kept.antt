@@ -1,4 +1,5 @@
--- Laws that were landed and that docs/PORT.md names, with the definitions they speak of. No proof cites them today.
+-- Laws that were landed and that docs/PORT.md names, with the definitions they speak of and the steps under them. No proof
+-- outside this file cites them.
 use Rattle.std.proofs.Common.{◌≡◌, refl, sym, ap, ◌∙◌, ℕ, zero, suc, ◌+◌, ◌-◌, ◌*◌, ◌/◌, ◌%◌, ◌^◌, ◌≤◌, ◌<◌, leb, Bool, true, false, not, [], ◌∷◌, ◌++◌, length, take, drop, replicate, Option, Some, ℤ, pos, negsuc, ◌-ℤ◌, Fits, SFits, w64, to_z, to_z-of_z, arith, length-take-le, ne_eqb, add-one, one-add, T, nat_abs}
 use Rattle.std.proofs.lemmas.Int.{to_z_pos}
 use Rattle.std.specs.Int.Signed.{mag, lt_z, non_neg}
@@ -30,7 +31,7 @@ other (pos zero) = refl
 other (pos (suc n)) = ap negsuc (omega arith)
 other (negsuc n) = grind arith
 
-other_fits : (z : ℤ) → SFits w64 z → SFits w64 (negsuc 0 -ℤ z)
+pub other_fits : (z : ℤ) → SFits w64 z → SFits w64 (negsuc 0 -ℤ z)
 other_fits (pos n) f = rw other (record { sfits = f.sfits })
 other_fits (negsuc n) f = rw other (record { sfits = f.sfits })
 

@@ -1,13 +1,15 @@
 -- Numbers in k bytes, for every k.
-use Rattle.std.proofs.Common.{◌≡◌, refl, ap, ◌∙◌, ℕ, zero, suc, ◌+◌, ◌-◌, ◌*◌, ◌/◌, ◌%◌, ◌^◌, ◌≤◌, ◌<◌, ltb, Bool, true, ◌∷◌, take, ℤ, pos, negsuc, SFits, w64, ◌-ℤ◌, to_z, to_z-of_z, arith, pow-add}
-use Rattle.std.proofs.Math.Nat.{one-mul, mul_assoc, mul-suc, pow-succ', pow-le-pow_right, one-le-pow}
+use Rattle.std.proofs.Common.{◌≡◌, refl, ap, ◌∙◌, ℕ, zero, suc, ◌+◌, ◌-◌, ◌*◌, ◌/◌, ◌%◌, ◌^◌, ◌≤◌, ◌<◌, ltb, Bool, true, ◌∷◌, take, ℤ, pos, negsuc, SFits, w64, to_z, to_z-of_z, arith, pow-add}
+use Rattle.std.proofs.Math.Nat.{one-mul, mul_assoc, mul-suc, pow-succ', pow-le-pow_right, one-le-pow, mul-le-mul_right}
 use Rattle.std.proofs.Math.Pow.{shl_exact}
 use Rattle.std.proofs.lemmas.Int.{to_z_pos}
-use Rattle.std.specs.Int.Signed.{mag}
+use Rattle.std.proofs.lemmas.Nat.{shl-shr, shr_high}
+use Rattle.std.proofs.Math.Facts.{to_z-neg}
+use Rattle.std.specs.Int.Signed.{mag, shr_z}
 use Rattle.layout.specs.Number.{half, holds, twos, of_twos}
 use Rattle.layout.specs.Entry.{small}
 use Rattle.layout.specs.Bytes.{le}
-use Rattle.layout.proofs.Picks.{tests}
+use Rattle.layout.proofs.Picks.{tests, by_test}
 use Rattle.number.specs.Shorter.{shorter}
 use Rattle.number.proofs.Signs.{again}
 
@@ -81,24 +83,57 @@ twos_take k m (negsuc n) l h =
 
 -- ---- the number of some bytes
 
-minus_one_less : (n : ℕ) → negsuc 0 -ℤ pos n ≡ negsuc n
-minus_one_less zero = refl
-minus_one_less (suc n) = ap negsuc (omega arith)
+pow_256 : (k : ℕ) → 256 ^ k ≡ 2 ^ (8 * k)
+pow_256 zero = refl
+pow_256 (suc k) = let e : 8 * suc k ≡ 8 + 8 * k = omega arith in rw (e, pow-add 2 8 (8 * k), ← pow_256 k) (omega arith)
 
--- r is what n was cast to
-module _ (n : ℕ) (r : ℤ) (e : r ≡ to_z w64 n) (l : n < 2 ^ 63) where
-  plain : again r ≡ pos n
-  plain = rw (e, to_z_pos w64 n l) (to_z-of_z {w = w64} (record { sfits = l }))
+-- r is x with its sign moved to the highest bit
+module _ (k u x : ℕ) (r : ℤ) (one : 1 ≤ k) (e : 8 * k + u ≡ 64) (l : x < 256 ^ k) (c : r ≡ to_z w64 (x * 2 ^ u % 2 ^ 64)) where
+  all : 256 ^ k * 2 ^ u ≡ 2 ^ 64
+  all = rw (pow_256 k, ← pow-add 2 (8 * k) u, e) refl
 
-  turned : again (negsuc 0 -ℤ again r) ≡ negsuc n
-  turned = rw (plain, minus_one_less n) (to_z-of_z {w = w64} (record { sfits = l }))
+  some : 1 ≤ 2 ^ u
+  some = one-le-pow u 2 (omega arith)
 
-module _ (k x h : ℕ) (r : ℤ) (g : h ≡ half k) (l : h ≤ 2 ^ 63) where
-  pub decode_plus : r ≡ to_z w64 x → x < h → again r ≡ of_twos k x
+  -- products by 2 ^ u, of whatever the numbers are
+  scaled : (a b : ℕ) → suc a ≤ b → a * 2 ^ u + 2 ^ u ≤ b * 2 ^ u
+  scaled a b h = let g = mul-le-mul_right {m = suc a} {n = b} (2 ^ u) h in omega (arith, g)
+
+  moved : r ≡ to_z w64 (x * 2 ^ u)
+  moved =
+      let b = scaled x (256 ^ k) l in
+      let m : x * 2 ^ u % 2 ^ 64 ≡ x * 2 ^ u = omega (arith, b, some, all) in c ∙ ap (to_z w64) m
+
+  halves : (2 * half k ≡ 256 ^ k) × (half k ≤ 2 ^ 63)
+  halves = let (a, b, d) = half_is k one (omega arith) in (rw a at b, rw a at d)
+
+  half_all : half k * 2 ^ u ≡ 2 ^ 63
+  half_all = let g : 2 * half k * 2 ^ u ≡ 2 ^ 64 = rw halves.0 all in omega (arith, g)
+
+  plus_decoded : x < half k → again (shr_z (again r) (2 ^ u)) ≡ pos x
+  plus_decoded h =
+      let b = scaled x (half k) h in
+      let y : x * 2 ^ u < 2 ^ 63 = omega (arith, b, some, half_all) in
+      rw (moved, to_z_pos w64 (x * 2 ^ u) y, to_z-of_z {w = w64} {z = pos (x * 2 ^ u)} (record { sfits = y }), shl-shr x u)
+      (to_z-of_z {w = w64} {z = pos x} (record { sfits = omega (arith, halves.1) }))
+
+  minus_by : (j : ℕ) → half k ≤ x → j + suc x ≡ 256 ^ k → again (shr_z (again r) (2 ^ u)) ≡ negsuc j
+  minus_by j h g =
+      let m : ℕ = 2 ^ 64 - suc (x * 2 ^ u) in
+      let y : 2 ^ 63 ≤ x * 2 ^ u = omega (arith, mul-le-mul_right {m = half k} {n = x} (2 ^ u) h, half_all) in
+      let a : (j + suc x) * 2 ^ u ≡ 2 ^ 64 = rw g all in
+      let b : j * 2 ^ u + (x * 2 ^ u + 2 ^ u) ≡ 2 ^ 64 = omega (arith, a) in
+      let n : m ≡ j * 2 ^ u + (2 ^ u - 1) = omega (arith, b, some) in
+      let f : m < 2 ^ 63 = omega (arith, y) in
+      let q : x * 2 ^ u ≡ 2 ^ 64 - suc m = omega (arith, b, some) in
+      let d : m / 2 ^ u ≡ j = ap (λ i. i / 2 ^ u) n ∙ shr_high j u (2 ^ u - 1) (omega (arith, some)) in
+      let t : r ≡ negsuc m = moved ∙ ap (to_z w64) q ∙ to_z-neg w64 m f in
+      rw (t, to_z-of_z {w = w64} {z = negsuc m} (record { sfits = f }), d)
+      (to_z-of_z {w = w64} {z = negsuc j} (record { sfits = omega (arith, h, g, halves) }))
+
+  minus_decoded : half k ≤ x → again (shr_z (again r) (2 ^ u)) ≡ negsuc (256 ^ k - suc x)
+  minus_decoded h = minus_by (256 ^ k - suc x) h (omega (arith, l))
+
+  pub decoded : again (shr_z (again r) (2 ^ u)) ≡ of_twos k x
   unfolding of_twos
-  decode_plus e p = grind (arith, plain x r e)
-
-  pub decode_minus : r ≡ to_z w64 (h - 1 - (x - h)) → h ≤ x → x < 256 ^ k → 2 * h ≡ 256 ^ k
-      → again (negsuc 0 -ℤ again r) ≡ of_twos k x
-  unfolding of_twos
-  decode_minus e p q t = grind (arith, turned (h - 1 - (x - h)) r e)
+  decoded = by_test (ltb x (half k)) (λ t. rw t (plus_decoded (omega tests))) λ t. rw t (minus_decoded (omega tests))

@@ -6,7 +6,8 @@ ghost use Rattle.layout.specs.Number.{more, whole, minus, number, text};
 use arrayvec::ArrayString;
 use itoa::Buffer;
 
-// The number that digits say, of which there are few enough for it to fit: `str::parse` takes a "+" too, and only of text.
+// The number that digits say, of which there are few enough for it to fit. Not by `str::parse`, which takes a "+" too and
+// asks for text.
 #[tactic(auto, using(crate::proofs::Values::digit_more), unfolding(layout::specs::Number::more))]
 fn all_digits(v: &[u8]) -> Option<u64>
     requires { length v.now ≤ 19 }

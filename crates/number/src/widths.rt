@@ -82,12 +82,8 @@ impl Width {
         requires { x < 256 ^ self.bytes }
         ensures { result ≡ of_twos self.bytes x }
     {
-        let half = self.half();
-        if x < half {
-            x.cast_signed()
-        } else {
-            // No method of integers takes the sign from another bit than the highest.
-            -1 - ((half - 1) - (x - half)).cast_signed()
-        }
+        // The sign goes to the highest bit and comes back.
+        let unused = 64 - 8 * self.bytes;
+        (x << unused).cast_signed() >> unused
     }
 }

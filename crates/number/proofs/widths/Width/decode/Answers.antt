@@ -1,8 +1,8 @@
-use Rattle.number.proofs.Numbers.{decode_plus, decode_minus}
+use Rattle.std.proofs.Common.{◌-◌, ◌*◌, arith}
+use Rattle.number.proofs.Numbers.{decoded}
 use Rattle.number.proofs.widths.Width.decode.Goals as goal
 
-pub returns-then-x-half : goal.returns-then-x-half
-returns-then-x-half c = search decode_plus
-
-pub returns-else-x-half : goal.returns-else-x-half
-returns-else-x-half c = search decode_minus
+pub returns : goal.returns
+returns c =
+    let s = c.args.self in
+    decoded s.bytes (64 - 8 * s.bytes) c.args.x _ s.least (omega (arith, s.most)) c.requires c.cast_signed.ensures
