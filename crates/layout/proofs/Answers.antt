@@ -1,7 +1,7 @@
 -- What an answer tells loses nothing: the answer is had back from what it tells.
 use Rattle.std.proofs.Common.{◌≡◌, ◌≢◌, refl, ℕ, suc, ◌-◌, List, [], ◌∷◌, get_or, eqb, Option, Some, None, Result, Ok, Err, arith, ne_eqb}
 use Rattle.layout.specs.Bytes.{pick}
-use Rattle.layout.specs.Answers.{number_of, Answer, telling, Check, check_done, check_refused, check_of, Count, count_good, count_refused, count_of}
+use Rattle.layout.specs.Answers.{number_of, Answer, telling, Check, check_checked, check_refused, check_of, Count, count_good, count_refused, count_of}
 use Rattle.layout.specs.Answers.{Place, place_found, place_refused, place_of, Content, content_told, content_refused, content_of}
 use Rattle.layout.specs.Answers.{Change, change_edited, change_refused, change_of}
 use Rattle.layout.specs.declared.answer.Refusal.{Refusal}
@@ -52,7 +52,7 @@ module _ {R : Type 0} (N : Numbered R) where
   pub checked_of : Check → Result Checked R
   checked_of t = answered t.number (record { count = t.count; size = t.size })
 
-  pub checked_again : (a : Result Checked R) → checked_of (telling N.number check_done check_refused a) ≡ a
+  pub checked_again : (a : Result Checked R) → checked_of (telling N.number check_checked check_refused a) ≡ a
   unfolding checked_of answered
   checked_again (Ok c) = refl
   checked_again (Err r) = refused_back _ r

@@ -43,11 +43,11 @@ check_good n z = record { number = 0; count = n; size = z }
 abbrev pub check_refused : ℕ → Check
 check_refused k = record { number = k; count = 0; size = 0 }
 
-abbrev pub check_done : Checked → Check
-check_done c = check_good c.count c.size
+abbrev pub check_checked : Checked → Check
+check_checked c = check_good c.count c.size
 
 abbrev pub check_of : Answer Checked → Check
-check_of = telling number_of check_done check_refused
+check_of = telling number_of check_checked check_refused
 
 -- ---- a count
 

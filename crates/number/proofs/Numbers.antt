@@ -11,7 +11,7 @@ use Rattle.layout.specs.Entry.{small}
 use Rattle.layout.specs.Bytes.{le}
 use Rattle.layout.proofs.Picks.{tests, by_test}
 use Rattle.number.specs.Shorter.{shorter}
-use Rattle.number.proofs.Signs.{again}
+use Rattle.number.proofs.Signs.{again, holds_mag}
 
 -- ---- half of what k bytes hold
 
@@ -33,11 +33,6 @@ half_is (suc j) p q =
     rw (shifted j q) (refl, omega arith, omega (arith, pow-le-pow_right {n = 256} (omega arith) {i = suc j} {j = 8} q))
 
 -- ---- by sign and magnitude
-
-holds_mag : (k : ℕ) (z : ℤ) → ltb (mag z) (half k) ≡ holds k z
-unfolding holds
-holds_mag k (pos n) = refl
-holds_mag k (negsuc n) = refl
 
 -- of a number that was handed to callees as the machine reads it again
 module _ {z : ℤ} (f : SFits w64 z) where

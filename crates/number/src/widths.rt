@@ -82,7 +82,7 @@ impl Width {
         requires { x < 256 ^ self.bytes }
         ensures { result ≡ of_twos self.bytes x }
     {
-        // The sign goes to the highest bit and comes back.
+        // A shift to the right copies the highest bit, so the sign is put there first.
         let unused = 64 - 8 * self.bytes;
         (x << unused).cast_signed() >> unused
     }

@@ -8,6 +8,5 @@ room w i x h p q m e =
     let l = pow-le-pow_right {n = 256} (omega arith) {i = w - i} {j = 7} (omega arith) in record { fits = omega (arith, l) }
 
 -- k bytes do
-pub sum_fits : (k x b : ℕ) → x < 256 ^ k → k ≤ 7 → b < 256 → Fits w64 (256 * x + b)
-sum_fits k x b h l m =
-    let e : suc k - 1 ≡ k = omega arith in room (suc k) 1 x (rw e h) (omega arith) (omega arith) (256 * x + b) (omega arith)
+pub one_more : (k x m : ℕ) → x < 256 ^ k → k ≤ 7 → m ≤ 256 * x + 255 → Fits w64 m
+one_more k x m h l g = let e : suc k - 1 ≡ k = omega arith in room (suc k) 1 x (rw e h) (omega arith) (omega arith) m g

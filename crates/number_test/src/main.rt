@@ -2,31 +2,25 @@
 //! encoding in hex and the number decoded again from that.
 #![tactic(auto)]
 
-ghost use Rattle.std.specs.Prelude.{◌^◌, ◌≤◌, ◌<◌, length};
-
 use number::Width;
 use std::io;
-
-// The number that bytes say without a sign, the lowest byte first: `from_le_bytes` reads 8 and no fewer.
-fn unsigned(bytes: &[u8]) -> u64
-    requires { length bytes.now ≤ 8 }
-    ensures { result < 256 ^ length bytes.now }
-{
-    let mut x: u64 = 0;
-    for b in bytes.iter().rev() {
-        x = 256 * x + u64::from(*b);
-    }
-    x
-}
 
 // The number of an encoding that `encode` wrote.
 fn decoded(body: &[u8]) -> Option<i64> {
     let (first, data) = body.split_first()?;
-    match data.len() {
-        0 => first.checked_sub(0xF1).map(i64::from),
-        1..=8 => Some(Width { bytes: data.len() }.decode(unsigned(data))),
-        _ => None,
+    if data.is_empty() {
+        return first.checked_sub(0xF1).map(i64::from);
     }
+    if 8 < data.len() {
+        return None;
+    }
+    // `from_le_bytes` reads 8 bytes and no fewer.
+    let mut x: u64 = 0;
+    for b in data.iter().rev() {
+        x = 256 * x + u64::from(*b);
+    }
+    let width = Width { bytes: data.len() };
+    Some(width.decode(x))
 }
 
 fn write_number(rt: &impl Print, z: i64) -> io::Result<()> {
