@@ -1,5 +1,5 @@
 -- The first kind that holds a number, and its bytes.
-use Rattle.std.proofs.Common.{◌≡◌, refl, sym, ap, ◌∙◌, ℕ, zero, suc, ◌+◌, ◌/◌, ◌%◌, ◌^◌, ◌≤◌, Bool, true, ◌∷◌, take, ℤ, pos, negsuc, SFits, w64, of_z, to_z-of_z, arith, take_all}
+use Rattle.std.proofs.Common.{◌≡◌, refl, sym, ap, ◌∙◌, ℕ, zero, suc, ◌+◌, ◌/◌, ◌%◌, ◌^◌, ◌≤◌, Bool, true, [], ◌∷◌, take, slice_index_or, ℤ, pos, negsuc, SFits, w64, of_z, to_z-of_z, arith, take_all, one-add}
 use Rattle.std.proofs.Math.Nat.{pow-suc, div-div-eq-div-mul}
 use Rattle.std.specs.Int.Signed.{mag}
 use Rattle.std.specs.Int.{to_le_bytes, bytes_low_first, byte_at}
@@ -52,7 +52,7 @@ low_first i (suc k) n = rw (byte_is i n, low_first (suc i) k n, pow-suc 256 i, d
 le_is : (n : ℕ) → to_le_bytes w64 n ≡ le 8 n
 le_is n = let e : n / 256 ^ 0 ≡ n = omega arith in low_first 0 8 n ∙ ap (le 8) e
 
-bits : (z : ℤ) → of_z w64 z ≡ twos 8 z
+pub bits : (z : ℤ) → of_z w64 z ≡ twos 8 z
 unfolding twos
 bits (pos n) = refl
 bits (negsuc n) = refl
@@ -61,3 +61,14 @@ pub body_bytes : {z : ℤ} (f : SFits w64 z) (b k : ℕ) (bs : Bytes) → number
     → bs ≡ to_le_bytes w64 (of_z w64 (again z)) → b ∷ take k bs ≡ number_body z
 body_bytes {z} f b k bs e d =
     let g : number_body z ≡ in_kind b k z = rw (to_z-of_z f) at e in rw (d, to_z-of_z f, le_is, bits z) (sym g)
+
+-- eight bytes, one by one
+abbrev each : Bytes → Bytes
+each bs =
+    slice_index_or bs 0 0 ∷ slice_index_or bs 1 0 ∷ slice_index_or bs 2 0 ∷ slice_index_or bs 3 0 ∷ slice_index_or bs 4 0
+    ∷ slice_index_or bs 5 0 ∷ slice_index_or bs 6 0 ∷ slice_index_or bs 7 0 ∷ []
+
+pub each_bytes : {z : ℤ} (f : SFits w64 z) (b k : ℕ) (bs : Bytes) → number_body (again z) ≡ in_kind b k (again z)
+    → bs ≡ to_le_bytes w64 (of_z w64 (again z)) → take (1 + k) (b ∷ each bs) ≡ number_body z
+each_bytes {z} f b k bs e d =
+    let h : each bs ≡ bs = rw d refl in rw (one-add, h) (body_bytes f b k bs e d)

@@ -1,5 +1,5 @@
 -- From text to a number.
-use Rattle.std.proofs.Common.{◌≡◌, refl, sym, ◌∙◌, ℕ, zero, suc, ◌+◌, ◌-◌, ◌*◌, ◌^◌, ◌≤◌, ◌<◌, leb, true, [], ◌∷◌, length, take, drop, slice_index_or, Option, Some, None, ℤ, pos, negsuc, Fits, w64, arith, take_all}
+use Rattle.std.proofs.Common.{◌≡◌, refl, sym, ◌∙◌, ℕ, zero, suc, ◌+◌, ◌-◌, ◌*◌, ◌^◌, ◌≤◌, ◌<◌, leb, Bool, true, false, [], ◌∷◌, length, take, drop, slice_index_or, Option, Some, None, ℤ, pos, negsuc, Fits, w64, arith, take_all}
 use Rattle.std.proofs.Math.Nat.{add-zero, pow-le-pow_right}
 use Rattle.std.specs.Char.{is_ascii_digit}
 use Rattle.layout.specs.Bytes.{Bytes, pick, between}
@@ -62,26 +62,32 @@ unfolding minus
 minus_large zero l = refl
 minus_large (suc n) l = sym (not_held (negsuc n) λ f. omega (arith, l, f.sfits))
 
+pub too_many : (b : Bool) (v : Bytes) → 19 < length v → None ≡ pick b (minus (whole v)) (plus (whole v))
+unfolding minus plus
+too_many true v l = grind (arith, few_is minus refl minus_large v)
+too_many false v l = grind (arith, few_is plus refl plus_large v)
+
 -- ---- the value
 
 -- with a minus in front
-number_minus : (v : Bytes) → 1 ≤ length v → slice_index_or v 0 0 ≡ 45
-    → minus (few (take (length v - 1) (drop 1 v))) ≡ number v
-unfolding number minus
-number_minus [] l e = absurd (omega arith)
-number_minus (b ∷ v) l e = grind (arith, take_all, few_is minus refl minus_large v)
+pub number_minus : (v : Bytes) (o : Option ℤ) → 1 ≤ length v → slice_index_or v 0 0 ≡ 45
+    → o ≡ minus (whole (take (length v - 1) (drop 1 v))) → o ≡ number v
+unfolding number
+number_minus [] o l e h = absurd (omega arith)
+number_minus (b ∷ v) o l e h = grind (arith, take_all)
 
 -- and with none
-number_plus : (v : Bytes) → (slice_index_or v 0 0 ≡ 45 → ⊥) → plus (few v) ≡ number v
+pub number_plus : (v : Bytes) (o : Option ℤ) → (slice_index_or v 0 0 ≡ 45 → ⊥) → o ≡ plus (whole v) → o ≡ number v
 unfolding number whole plus
-number_plus [] h = refl
-number_plus (b ∷ v) h = grind (arith, few_is plus refl plus_large (b ∷ v))
+number_plus [] o h e = e
+number_plus (b ∷ v) o h e = grind arith
 
 -- what the digits came to, and what the sign made of that
 module _ (v : Bytes) (r : Option ℤ) where
   module _ (l : 1 ≤ length v) (e : slice_index_or v 0 0 ≡ 45) where
     minus_of : (o : Option ℕ) → o ≡ few (take (length v - 1) (drop 1 v)) → r ≡ minus o → r ≡ number v
-    minus_of o f g = g ∙ rw f (number_minus v l e)
+    unfolding minus
+    minus_of o f g = number_minus v r l e (g ∙ rw f (few_is minus refl minus_large (take (length v - 1) (drop 1 v))))
 
     pub minus_none : None ≡ few (take (length v - 1) (drop 1 v)) → r ≡ None → r ≡ number v
     unfolding minus
@@ -92,7 +98,8 @@ module _ (v : Bytes) (r : Option ℤ) where
 
   module _ (h : slice_index_or v 0 0 ≡ 45 → ⊥) where
     plus_of : (o : Option ℕ) → o ≡ few v → r ≡ plus o → r ≡ number v
-    plus_of o f g = g ∙ rw f (number_plus v h)
+    unfolding plus
+    plus_of o f g = number_plus v r h (g ∙ rw f (few_is plus refl plus_large v))
 
     pub plus_none : None ≡ few v → r ≡ None → r ≡ number v
     unfolding plus

@@ -1,12 +1,11 @@
 //! The kinds of number, and the bytes of a number in the first that holds it.
-ghost use Rattle.std.specs.Prelude.{◌≡◌, ◌∷◌, ◌≤◌, take};
+ghost use Rattle.std.specs.Prelude.{◌≡◌, ◌∷◌, ◌≤◌, length, take};
 ghost use Rattle.layout.specs.Bytes.{le};
 ghost use Rattle.layout.specs.Number.{twos};
 ghost use Rattle.layout.specs.Entry.{number_body};
 ghost use Rattle.number.specs.Kinds.{byte_of, data_len};
 
 use crate::widths::{Small, Width};
-use arrayvec::ArrayVec;
 
 /// A kind of number, by where its data lie.
 #[derive(Clone, Copy, Debug, PartialEq, Eq)]
@@ -69,16 +68,35 @@ pub fn kind_of(z: i64) -> Kind
     }
 }
 
+/// A number's encoding and data, in the value itself: it may be copied, as an `ArrayVec` may not.
+#[derive(Clone, Copy, Debug, PartialEq, Eq)]
+pub struct Encoded {
+    // What lies behind `len` is the rest of the number's 8 bytes, so encodings are equal where their numbers are.
+    bytes: [u8; 9],
+    len: usize,
+    ghost least: { 1 ≤ len },
+    ghost most: { len ≤ 9 },
+}
+
+impl Encoded {
+    /// The bytes, 1 to 9 of them.
+    pub fn as_slice(&self) -> &[u8]
+        ensures { (result.now ≡ take self.now.len self.now.bytes) × (1 ≤ length result.now) × (length result.now ≤ 9) }
+    {
+        &self.bytes[..self.len]
+    }
+}
+
 /// A number's encoding and data, in the first kind that holds it.
-#[tactic(auto, using(crate::proofs::Encodings::body_bytes))]
-pub fn encode(z: i64) -> ArrayVec<u8, 9>
-    ensures { result.items ≡ number_body z }
+#[tactic(auto, using(crate::proofs::Encodings::each_bytes))]
+pub fn encode(z: i64) -> Encoded
+    ensures { take result.len result.bytes ≡ number_body z }
 {
     let kind = kind_of(z);
     let data = z.to_le_bytes();
-    let mut body = ArrayVec::new();
-    body.push(kind.byte());
-    body.try_extend_from_slice(&data[..kind.data_len()])
-        .unwrap();
-    body
+    let [a, b, c, d, e, f, g, h] = data;
+    Encoded {
+        bytes: [kind.byte(), a, b, c, d, e, f, g, h],
+        len: 1 + kind.data_len(),
+    }
 }

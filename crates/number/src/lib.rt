@@ -6,6 +6,6 @@ mod kinds;
 mod text;
 mod widths;
 
-pub use kinds::{Kind, encode, kind_of};
+pub use kinds::{Encoded, Kind, encode, kind_of};
 pub use text::{parse, text_of};
 pub use widths::{Small, Width};

@@ -23,16 +23,16 @@ fn all_digits(v: &[u8]) -> Option<u64>
     Some(n)
 }
 
-// The whole number that bytes say, if 19 digits do.
+// The whole number that bytes say, if 19 digits do: a longer value is told by its length alone.
 #[tactic(auto, unfolding(layout::specs::Number::whole, layout::specs::Number::more))]
 fn digits_of(v: &[u8]) -> Option<u64>
     ensures { result ≡ pick (leb (length v.now) 19) (whole v.now) None }
 {
     match v {
+        _ if 19 < v.len() => None,
         [b'0'] => Some(0),
         [] | [b'0', ..] => None,
-        _ if v.len() <= 19 => all_digits(v),
-        _ => None,
+        _ => all_digits(v),
     }
 }
 

@@ -13,15 +13,19 @@ pub struct Small {
 }
 
 impl Small {
-    // z, if it is one: nobody asks why another is not, so no `TryFrom` with an error.
+    // z, if it is one: nobody asks why another is not, so no `TryFrom` with an error. The cast loses nothing, as is known
+    // here; `u8::try_from` would test again.
     pub(crate) fn of(z: i64) -> Option<Small>
         ensures some { IfSome result (λ s. (small z ≡ true) × (s.number ≡ mag z)) }
         ensures none { IfNone result (small z ≡ false) }
     {
-        match u8::try_from(z) {
-            Ok(number) if number <= 12 => Some(Small { number }),
-            _ => None,
+        let number = magnitude(z);
+        if z < 0 || 12 < number {
+            return None;
         }
+        Some(Small {
+            number: number as u8,
+        })
     }
 }
 
