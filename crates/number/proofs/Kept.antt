@@ -1,14 +1,14 @@
 -- Laws that were landed and that nothing else states, with the definitions they speak of and the steps under them. No proof
 -- outside this file cites them.
-use Rattle.std.proofs.Common.{◌≡◌, refl, sym, ap, ◌∙◌, ℕ, zero, suc, ◌+◌, ◌-◌, ◌*◌, ◌/◌, ◌%◌, ◌^◌, ◌≤◌, ◌<◌, leb, Bool, true, false, not, [], ◌∷◌, ◌++◌, length, take, drop, replicate, Option, Some, ℤ, pos, negsuc, ◌-ℤ◌, Fits, SFits, w64, to_z, to_z-of_z, arith, length-take-le, ne_eqb, add-one, one-add, add-zero, T, nat_abs, ltb, lt-ltb, le-ltb, set, length-set, drop-cons, get_or-set_same, drop-set-lt, take-add}
+use Rattle.std.proofs.Common.{◌≡◌, refl, sym, ap, ◌∙◌, ℕ, zero, suc, ◌+◌, ◌-◌, ◌*◌, ◌/◌, ◌%◌, ◌^◌, ◌≤◌, ◌<◌, leb, Bool, true, false, not, [], ◌∷◌, ◌++◌, length, take, drop, slice_index_or, replicate, Option, Some, None, ℤ, pos, negsuc, ◌-ℤ◌, Fits, SFits, w64, to_z, to_z-of_z, arith, length-take-le, ne_eqb, add-one, one-add, add-zero, T, nat_abs, ltb, lt-ltb, le-ltb, set, length-set, drop-cons, get_or-set_same, drop-set-lt, drop_of_length-le, take-add}
 use Rattle.std.proofs.lemmas.List.{take-set-le}
 use Rattle.std.proofs.Math.Nat.{pow-le-pow_right, one-le-pow}
 use Rattle.std.proofs.lemmas.Int.{to_z_pos}
 use Rattle.std.specs.Int.Signed.{mag, lt_z, non_neg}
-use Rattle.layout.specs.Bytes.{Bytes, le, pick}
-use Rattle.layout.specs.Number.{holds, twos, digits, text, whole, plus, minus}
+use Rattle.layout.specs.Bytes.{Bytes, le, pick, between}
+use Rattle.layout.specs.Number.{half, holds, twos, of_twos, digits, text, more, whole, signed64, plus, minus}
 use Rattle.layout.specs.Entry.{small, number_body}
-use Rattle.layout.proofs.Picks.{tests, by_test}
+use Rattle.layout.proofs.Picks.{tests, by_test, true_between}
 use Rattle.number.specs.Shorter.{shorter}
 use Rattle.number.proofs.Signs.{again}
 use Rattle.number.proofs.Encodings.{in_kind}
@@ -230,3 +230,70 @@ front_as room len bytes xs ys f e = rw (← e) f
 pub told_number : (b : Bool) (v : Bytes) (w : Option ℕ) (n : ℕ) (o : Option ℤ) → w ≡ whole v → w ≡ Some n
     → o ≡ pick b (minus (Some n)) (plus (Some n)) → o ≡ pick b (minus (whole v)) (plus (whole v))
 told_number b v w n o e i h = rw (← e, i) h
+
+-- ---- the digits, one by one
+
+-- a 0 goes before no other
+pub first_digit : (v : Bytes) → (slice_index_or v 0 0 ≡ 48 → ⊥) → (length v ≡ 0 → ⊥) → whole v ≡ more 0 (drop 0 v)
+unfolding whole more
+first_digit [] p q = absurd (q refl)
+first_digit (b ∷ []) p q = grind arith
+first_digit (b ∷ c ∷ bs) p q = grind arith
+
+-- a byte more: v says what n and the bytes from i on say
+module _ (v : Bytes) (i n : ℕ) (l : i < length v) (e : whole v ≡ more n (drop i v)) where
+  next : whole v ≡ pick (between 48 57 (slice_index_or v i 0)) (more (10 * n + (slice_index_or v i 0 - 48)) (drop (i + 1) v)) None
+  unfolding more
+  next = e ∙ rw (add-one, drop-cons v i 0 l) refl
+
+  pub digit_low : slice_index_or v i 0 < 48 → None ≡ whole v
+  digit_low h = grind (arith, next)
+
+  pub digit_high : 57 < slice_index_or v i 0 → None ≡ whole v
+  digit_high h = grind (arith, next)
+
+  pub digit_turn : (d : ℕ) → 48 ≤ slice_index_or v i 0 → slice_index_or v i 0 ≤ 57 → d ≡ slice_index_or v i 0 - 48
+      → whole v ≡ more (10 * n + d) (drop (i + 1) v)
+  digit_turn d p q f = next ∙ rw (true_between 48 57 (slice_index_or v i 0) p q, f) refl
+
+-- no byte more
+pub digits_end : (v : Bytes) (i n : ℕ) → i ≤ length v → length v ≤ i → whole v ≡ more n (drop i v) → Some n ≡ whole v
+unfolding more
+digits_end v i n p q e = sym (e ∙ rw (drop_of_length-le v q) refl)
+
+-- i digits say less than 10 ^ i
+pub bound_turn : (i n d : ℕ) → n < 10 ^ i → d < 10 → 10 * n + d < 10 ^ (i + 1)
+bound_turn i n d h g = rw add-one (omega arith)
+
+pub bound_room : (i n : ℕ) → n < 10 ^ i → i < 19 → n < 10 ^ 18
+bound_room i n h l = omega (arith, pow-le-pow_right {n = 10} (omega arith) {i = i} {j = 18} (omega arith))
+
+pub minus_is : (b : Bool) (n : ℕ) (o : Option ℤ) → b ≡ true → (n ≡ 0 → ⊥) → o ≡ signed64 (of_sign true (n - 1))
+    → o ≡ pick b (minus (Some n)) (plus (Some n))
+unfolding minus
+minus_is b zero o h p e = absurd (p refl)
+minus_is b (suc n) o h p e = let q : suc n - 1 ≡ n = omega arith in rw h (rw q at e)
+
+-- ---- bits, and the number of some
+
+module _ {z : ℤ} (f : SFits w64 z) (n : ℕ) (m : n ≡ mag (again z)) (b : Bool) (s : b ≡ is_minus (again z)) where
+  pub bits_plus : b ≡ false → n ≡ twos 8 z
+  unfolding twos
+  bits_plus h = ap (twos 8) (rw h at (known f n m b s))
+
+  pub bits_minus : b ≡ true → 0xFFFF_FFFF_FFFF_FFFF - n ≡ twos 8 z
+  unfolding twos
+  bits_minus h =
+      let e : 0xFFFF_FFFF_FFFF_FFFF - n ≡ 256 ^ 8 - suc n = omega arith in e ∙ ap (twos 8) (rw h at (known f n m b s))
+
+module _ (k x h : ℕ) (z : ℤ) (e : h ≡ half k) (l : h ≤ 2 ^ 63) where
+  pub decode_plus : x < h → z ≡ of_sign false x → again z ≡ of_twos k x
+  unfolding of_twos
+  decode_plus p g =
+      rw (g, ← e, lt-ltb x h p) (to_z-of_z {w = w64} {z = pos x} (record { sfits = omega arith }))
+
+  pub decode_minus : h ≤ x → x < 256 ^ k → 2 * h ≡ 256 ^ k → z ≡ of_sign true (h - 1 - (x - h)) → again z ≡ of_twos k x
+  unfolding of_twos
+  decode_minus p q t g =
+      let n : h - 1 - (x - h) ≡ 256 ^ k - suc x = omega arith in
+      rw (g, ← e, le-ltb x h p, ← n) (to_z-of_z {w = w64} {z = negsuc (h - 1 - (x - h))} (record { sfits = omega arith }))

@@ -1,11 +1,16 @@
 //! The kinds of number, and the bytes of a number in the first that holds it.
-ghost use Rattle.std.specs.Prelude.{◌≡◌, ◌∷◌, ◌≤◌, length, take};
+ghost use Rattle.std.specs.Prelude.{◌≡◌, ◌∷◌, ◌≤◌, length, take, nat_eq};
+ghost use Rattle.std.specs.Cmp.{on_equiv, on_per, partial_equiv_from_equiv};
+ghost use Rattle.std.specs.Cmp.Lexicographic.{pointwise, nat_list_eq_equiv};
 ghost use Rattle.layout.specs.Bytes.{le};
 ghost use Rattle.layout.specs.Number.{twos};
 ghost use Rattle.layout.specs.Entry.{number_body};
 ghost use Rattle.number.specs.Kinds.{byte_of, data_len};
 
 use crate::widths::{Small, Width};
+use std::fmt;
+use std::marker::Model;
+use std::ops::DerefSlice;
 
 /// A kind of number, by where its data lie.
 #[derive(Clone, Copy, Debug, PartialEq, Eq)]
@@ -68,29 +73,75 @@ pub fn kind_of(z: i64) -> Kind
     }
 }
 
-/// A number's encoding and data, in the value itself: it may be copied, as an `ArrayVec` may not.
-#[derive(Clone, Copy, Debug, PartialEq, Eq)]
+/// A number's encoding and data, 1 to 9 bytes in the value itself: it may be copied, as an `ArrayVec` may not.
+#[derive(Clone, Copy)]
 pub struct Encoded {
-    // What lies behind `len` is the rest of the number's 8 bytes, so encodings are equal where their numbers are.
     bytes: [u8; 9],
     len: usize,
-    ghost least: { 1 ≤ len },
-    ghost most: { len ≤ 9 },
+}
+
+impl Model for Encoded {
+    ghost use Rattle.std.specs.Prelude.{◌≡◌, ◌≤◌, ◌++◌, length, take, drop};
+    ghost use Rattle.std.proofs.Common.{arith, take-append-drop, length-take-le};
+    ghost use Rattle.number.specs.Encoded.{Encoded as Body};
+
+    ghost Value = { Body };
+
+    ghost view = { λ e. record { items = take e.len e.bytes; spare = drop e.len e.bytes } };
+
+    ghost invariant = { λ e. (1 ≤ e.len) × (e.len ≤ 9) × (length e.bytes ≡ 9) };
+
+    ghost inverse = { λ e. record { bytes = e.items ++ e.spare; len = length e.items } };
+
+    ghost inverse_ok = { λ e h i. record {
+      bytes = take-append-drop e.len e.bytes i;
+      len = length-take-le e.len e.bytes (omega (arith, h.1, h.2)) i;
+    } };
 }
 
 impl Encoded {
-    /// The bytes, 1 to 9 of them.
+    /// The bytes.
     pub fn as_slice(&self) -> &[u8]
-        ensures { (result.now ≡ take self.now.len self.now.bytes) × (1 ≤ length result.now) × (length result.now ≤ 9) }
+        ensures { (result.now ≡ self.now.items) × (1 ≤ length result.now) × (length result.now ≤ 9) }
     {
         &self.bytes[..self.len]
+    }
+}
+
+impl DerefSlice for Encoded {
+    type Elem = u8;
+
+    ghost deref_gives = { λ e xs. (xs ≡ e.items) × (1 ≤ length xs) × (length xs ≤ 9) };
+
+    fn deref(&self) -> &[u8] {
+        Encoded::as_slice(self)
+    }
+}
+
+impl PartialEq for Encoded {
+    ghost eq = { λ d e. pointwise nat_eq d.items e.items };
+
+    ghost laws = { on_per (λ e. e.items) (partial_equiv_from_equiv nat_list_eq_equiv) };
+
+    fn eq(&self, other: &Self) -> bool {
+        self.as_slice() == other.as_slice()
+    }
+}
+
+impl Eq for Encoded {
+    ghost laws = { on_equiv (λ e. e.items) nat_list_eq_equiv };
+}
+
+impl fmt::Debug for Encoded {
+    fn fmt<W: fmt::Write>(&self, f: &mut fmt::Formatter<W>) -> fmt::Result {
+        f.debug_list().entries(self.as_slice()).finish()
     }
 }
 
 /// A number's encoding and data, in the first kind that holds it.
 #[tactic(auto, using(crate::proofs::Encodings::each_bytes))]
 pub fn encode(z: i64) -> Encoded
-    ensures { take result.len result.bytes ≡ number_body z }
+    ensures { result.items ≡ number_body z }
 {
     let kind = kind_of(z);
     let data = z.to_le_bytes();
