@@ -118,6 +118,7 @@ impl DerefSlice for Encoded {
     }
 }
 
+// By hand, as is `Debug`: derived ones would read the room behind the bytes.
 impl PartialEq for Encoded {
     ghost eq = { λ d e. pointwise nat_eq d.items e.items };
 
